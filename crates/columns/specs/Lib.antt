@@ -1,0 +1,4 @@
+pub mod Columns
+pub mod Rule
+pub mod Table
+pub mod Tested

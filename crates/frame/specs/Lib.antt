@@ -1,0 +1,9 @@
+pub mod Code
+pub mod Checks
+pub mod Faults
+pub mod Opening
+pub mod Promises
+pub mod Renewal
+pub mod Sealing
+pub mod Sticks
+pub mod Worked

@@ -1,0 +1,4 @@
+pub mod Counting
+pub mod Cutting
+pub mod Pairs
+pub mod Wording

@@ -1,0 +1,4 @@
+pub mod Admitted
+pub mod Draws
+pub mod Faults
+pub mod Token
