@@ -4,7 +4,7 @@ ghost use mathlib.Core.List.{List};
 ghost use Prim.Native.Nat.{ℕ, _≤_};
 ghost use lib.ListN.{length};
 ghost use Rattle.std.specs.Results.{Cases};
-ghost use Rattle.bank.specs.Calls.{Gives, Puts};
+ghost use Rattle.bank.specs.Calls.{fault-number, Gives, Puts};
 
 mod joined;
 mod lent;
@@ -26,6 +26,14 @@ const MOST: usize = 65536;
 #[derive(Clone, Copy, PartialEq, Eq, Debug)]
 pub enum BankFault {
     Outside,
+}
+
+impl BankFault {
+    pub fn number(self) -> u8
+        ensures { λ r. ⌜ r ≡ fault-number self ⌝ }
+    {
+        11
+    }
 }
 
 // A bank means a row of bytes.

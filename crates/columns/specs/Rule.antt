@@ -9,10 +9,10 @@ use Rattle.std.specs.Iters.{counting}
 use Rattle.std.specs.shelf.Lists.{kept-by}
 
 -- n is one of the first k powers of two
-abbrev pub power : ℕ → ℕ → Bool
-power zero n = false
-power (suc k) n = eqb n (2 ^ k) || power k n
+abbrev pub is-power : ℕ → ℕ → Bool
+is-power zero n = false
+is-power (suc k) n = eqb n (2 ^ k) || is-power k n
 
 -- the first k numbers from 3 upward that are no powers of two: they are among the first 2 * k numbers
 unfoldable pub non-powers : ℕ → List ℕ
-non-powers k = take k (kept-by (λ n. not (power n n)) (counting 3 (2 * k)))
+non-powers k = take k (kept-by (λ n. not (is-power n n)) (counting 3 (2 * k)))

@@ -15,7 +15,7 @@ use Rattle.std.specs.shelf.Lists.{All}
 use Rattle.std.proofs.shelf.Elements.{all-getD}
 use Rattle.std.proofs.shelf.Tests.{and-parts, not-true, both-ways, ltb-true, eqb-false, eq-eqb, or-left, or-right, cases-order, cases-lt}
 use Rattle.columns.specs.Columns.{Laws}
-use Rattle.columns.specs.Rule.{power, non-powers}
+use Rattle.columns.specs.Rule.{is-power, non-powers}
 use Rattle.columns.specs.Table.{listed}
 
 -- c is none of xs
@@ -25,7 +25,7 @@ absent c (x ∷ xs) = not (eqb c x) && absent c xs
 
 -- c has at most h digits, and is neither 0 nor a power of two
 unfoldable pub plain : ℕ → ℕ → Bool
-plain h c = ltb c (2 ^ h) && (not (eqb c 0) && not (power h c))
+plain h c = ltb c (2 ^ h) && (not (eqb c 0) && not (is-power h c))
 
 -- each column is plain, and none comes twice
 unfoldable pub lawful : ℕ → List ℕ → Bool
@@ -37,26 +37,26 @@ abbrev Plain : ℕ → ℕ → Type 0
 Plain h c = (c < 2 ^ h) × (c ≡ 0 → ⊥) × ((k : ℕ) → c ≡ 2 ^ k → ⊥)
 
 -- the test finds each power of two
-power-found : (h k : ℕ) → k < h → power h (2 ^ k) ≡ true
+power-found : (h k : ℕ) → k < h → is-power h (2 ^ k) ≡ true
 power-found zero k lt = absurd (not-suc-le-zero lt)
 power-found (suc h) k lt =
     ⊎-elim
-    (λ e. or-left (eqb (2 ^ k) (2 ^ h)) (power h (2 ^ k)) (eq-eqb (2 ^ k) (2 ^ h) (ap (λ (x : ℕ). 2 ^ x) e)))
-    (λ ways. or-right (eqb (2 ^ k) (2 ^ h)) (power h (2 ^ k)) (power-found h k (⊎-elim (λ (l : k < h). l) (λ (l : h < k). absurd (omega arith)) ways)))
+    (λ e. or-left (eqb (2 ^ k) (2 ^ h)) (is-power h (2 ^ k)) (eq-eqb (2 ^ k) (2 ^ h) (ap (λ (x : ℕ). 2 ^ x) e)))
+    (λ ways. or-right (eqb (2 ^ k) (2 ^ h)) (is-power h (2 ^ k)) (power-found h k (⊎-elim (λ (l : k < h). l) (λ (l : h < k). absurd (omega arith)) ways)))
     (cases-order k h)
 
-not-power : (h c : ℕ) → c < 2 ^ h → power h c ≡ false → (k : ℕ) → c ≡ 2 ^ k → ⊥
+not-power : (h c : ℕ) → c < 2 ^ h → is-power h c ≡ false → (k : ℕ) → c ≡ 2 ^ k → ⊥
 not-power h c small test k e =
     let lt : k < h = ⊎-elim (λ (l : k < h). l) (λ (l : h ≤ k). absurd (omega (arith, pow-mono l))) (cases-lt k h) in
-    both-ways (power h c) test (subst (λ (x : ℕ). power h x ≡ true) (sym e) (power-found h k lt))
+    both-ways (is-power h c) test (subst (λ (x : ℕ). is-power h x ≡ true) (sym e) (power-found h k lt))
 
 plain-holds : (h c : ℕ) → plain h c ≡ true → Plain h c
 unfolding plain
 plain-holds h c test =
-    let first = and-parts (ltb c (2 ^ h)) (not (eqb c 0) && not (power h c)) test in
-    let rest = and-parts (not (eqb c 0)) (not (power h c)) (first .1) in
+    let first = and-parts (ltb c (2 ^ h)) (not (eqb c 0) && not (is-power h c)) test in
+    let rest = and-parts (not (eqb c 0)) (not (is-power h c)) (first .1) in
     let small = ltb-true c (2 ^ h) (first .0) in
-    (small, eqb-false c 0 (not-true (eqb c 0) (rest .0)), not-power h c small (not-true (power h c) (rest .1)))
+    (small, eqb-false c 0 (not-true (eqb c 0) (rest .0)), not-power h c small (not-true (is-power h c) (rest .1)))
 
 absent-holds : (c : ℕ) (xs : List ℕ) → absent c xs ≡ true → (t : ℕ) → t < length xs → c ≡ getD xs t 0 → ⊥
 unfolding absent

@@ -44,7 +44,7 @@ pub trait Field {
 
     law each: { (n : ℕ) → n < 2 ^ m → number (numbered n) ≡ n };
 
-    // The width m; the same number as `WIDTH`, which no clause can name in generic code.
+    // The width m, which each field answers from its `WIDTH`: no clause can name that in generic code.
     fn degree() -> u32
         ensures { λ r. ⌜ r ≡ m ⌝ };
 

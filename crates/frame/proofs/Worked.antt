@@ -16,7 +16,7 @@ use Rattle.columns.specs.Rule.{non-powers}
 use Rattle.field.specs.Products.{product}
 use Rattle.frame.specs.Code.{Code, frame-bits, word, check}
 use Rattle.frame.specs.Opening.{Outcome, raw-salt, syndrome, opening-even, opening-odd, opening}
-use Rattle.frame.specs.Sealing.{body, sealing}
+use Rattle.frame.specs.Sealing.{body, bytes-of, sealing}
 use Rattle.frame.specs.Sticks.{code7, code17}
 use Rattle.frame.specs.Worked.{Worked, openings}
 
@@ -46,6 +46,6 @@ pub worked : Worked
 unfolding onesIn by-count non-powers product
 worked = record {
   opened = opened code7 2 openings (refl, (refl, (refl, (refl, (refl, (refl, (refl, (refl, (refl, (refl, tt))))))))));
-  sealed = sealed code7 (6 ∷ 3 ∷ []) 2 40 refl;
-  zeros = sealed code17 (replicate 16 0) 2 320 refl;
+  sealed = ap (bytes-of 5) (sealed code7 (6 ∷ 3 ∷ []) 2 40 refl);
+  zeros = ap (bytes-of 39) (sealed code17 (replicate 16 0) 2 320 refl);
 }

@@ -1,6 +1,5 @@
 // The parts of a frame, read from its bytes.
 ghost use mathlib.Core.Path.{_≡_};
-ghost use mathlib.Core.Bool.{true};
 ghost use Prim.Native.Nat.{_+_, _*_, _%_, _^_, _≤_};
 ghost use lib.Count.{ones};
 ghost use lib.ListN.{length};

@@ -1,9 +1,8 @@
 // The exclusive-or and the check value of a word.
 ghost use mathlib.Core.Path.{_≡_};
 ghost use Prim.Native.Nat.{ℕ, _<_, _^_};
-ghost use lib.ListN.{length, getD};
+ghost use lib.ListN.{getD};
 ghost use Rattle.frame.specs.Checks.{check-value, xor-all};
-ghost use Rattle.frame.specs.Opening.{opening};
 use field::Field;
 
 // The exclusive-or of all blocks.

@@ -1,6 +1,7 @@
 // What sealing and opening a frame answer. Each refusal has a number, by which it is told outside.
 ghost use mathlib.Core.Path.{_≡_};
-ghost use Rattle.frame.specs.Faults.{open-number, seal-number};
+ghost use Rattle.std.specs.declared.result.Result.the-variants.{Err};
+ghost use Rattle.frame.specs.Faults.{fit-number, open-number, seal-number};
 
 // The part of a frame in which a flipped bit was put right; blocks count from 1, bits from 0.
 #[derive(Clone, Copy, PartialEq, Eq, Debug)]
@@ -39,7 +40,7 @@ pub enum OpenFault {
     Size,
     // the recovered salt is not admitted
     Salt,
-    // the count of ones is even, and the frame is not clean
+    // the count of ones is even, and the syndrome or the check value is wrong
     Even,
     // the syndrome of an odd frame points at no bit
     Syndrome,
@@ -50,6 +51,14 @@ pub enum OpenFault {
 // The field and the column set do not fit each other, or break a limit.
 #[derive(Clone, Copy, PartialEq, Eq, Debug)]
 pub struct Unfit;
+
+impl Unfit {
+    pub fn number(self) -> u8
+        ensures { λ r. ⌜ r ≡ fit-number (Err self) ⌝ }
+    {
+        9
+    }
+}
 
 impl SealFault {
     pub fn number(self) -> u8

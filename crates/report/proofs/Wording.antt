@@ -18,7 +18,7 @@ use Rattle.frame.specs.declared.verdict.OpenFault.{OpenFault}
 use Rattle.frame.specs.declared.verdict.Part.{Part}
 use Rattle.frame.specs.declared.verdict.Verdict.{Verdict}
 use Rattle.frame.specs.declared.verdict.Verdict.the-variants.{Clean, Mended}
-use Rattle.report.specs.Text.{lines, unhex, numbers, part-text, verdict-text, refusal-text, outcome-text, line-outcome, frames-text}
+use Rattle.report.specs.Text.{lines, decoded, numbers, part-text, verdict-text, refusal-text, outcome-text, line-outcome, frames-text}
 
 -- the text of a mended frame, from those of its blocks and its part
 pub mended-words : (blocks named ys : List ℕ) (part : Part) → blocks ≡ numbers ys → named ≡ part-text part → codes "mended" ++ (blocks ++ (codes " at " ++ named)) ≡ verdict-text (Mended part) ys
@@ -47,9 +47,9 @@ numbers-more word i out after shown inside printed pushed =
     rw (pushed, printed, step) (append-assoc out (32 ∷ decimal (getD word i 0)) (numbers (drop (i + 1) word)))
 
 -- what the bytes of a line open to in n places
-pub line-words : (K : Code) (n b : ℕ) (held bytes line : List ℕ) → n ≡ b → held ≡ bytes → Some bytes ≡ unhex line → outcome-text (row-opening K n held) ≡ outcome-text (line-outcome K b (unhex line))
+pub line-words : (K : Code) (n b : ℕ) (held bytes line : List ℕ) → n ≡ b → held ≡ bytes → Some bytes ≡ decoded line → outcome-text (row-opening K n held) ≡ outcome-text (line-outcome K b (decoded line))
 line-words K n b held bytes line e f g = ap₂ (λ k xs. outcome-text (row-opening K k xs)) e f ∙ ap (λ o. outcome-text (line-outcome K b o)) g
 
 -- the line of one frame more
-pub frames-more : (K : Code) (b n : ℕ) (rest line more out after shown outcome : List ℕ) → lines rest ≡ line ∷ lines more → outcome ≡ outcome-text (line-outcome K b (unhex line)) → shown ≡ decimal n ++ (32 ∷ (outcome ++ 10 ∷ [])) → after ≡ out ++ shown → after ++ frames-text K b (n + 1) (lines more) ≡ out ++ frames-text K b n (lines rest)
+pub frames-more : (K : Code) (b n : ℕ) (rest line more out after shown outcome : List ℕ) → lines rest ≡ line ∷ lines more → outcome ≡ outcome-text (line-outcome K b (decoded line)) → shown ≡ decimal n ++ (32 ∷ (outcome ++ 10 ∷ [])) → after ≡ out ++ shown → after ++ frames-text K b (n + 1) (lines more) ≡ out ++ frames-text K b n (lines rest)
 frames-more K b n rest line more out after shown outcome cut told printed pushed = rw (cut, pushed, printed, told, add-one) (simp append-assoc)

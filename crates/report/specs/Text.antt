@@ -48,10 +48,10 @@ onto (Some x) None = None
 onto None xs = None
 
 -- the bytes that pairs of digits stand for
-abbrev pub unhex : List ℕ → Option (List ℕ)
-unhex [] = Some []
-unhex (x ∷ []) = None
-unhex (x ∷ y ∷ xs) = onto (byte (digit x) (digit y)) (unhex xs)
+abbrev pub decoded : List ℕ → Option (List ℕ)
+decoded [] = Some []
+decoded (x ∷ []) = None
+decoded (x ∷ y ∷ xs) = onto (byte (digit x) (digit y)) (decoded xs)
 
 -- the number of blocks b, 1 to 16, for which a line is the width, one space and b, all in decimal
 abbrev pub blocks-named : ℕ → List ℕ → Option ℕ
@@ -91,7 +91,7 @@ line-outcome K b (Some bytes) = row-opening K b bytes
 -- a line for each frame, numbered from n on
 abbrev pub frames-text : Code → ℕ → ℕ → List (List ℕ) → List ℕ
 frames-text K b n [] = []
-frames-text K b n (line ∷ more) = decimal n ++ 32 ∷ outcome-text (line-outcome K b (unhex line)) ++ 10 ∷ frames-text K b (suc n) more
+frames-text K b n (line ∷ more) = decimal n ++ 32 ∷ outcome-text (line-outcome K b (decoded line)) ++ 10 ∷ frames-text K b (suc n) more
 
 -- the frames after a first line, by the numbers of blocks that it names at width 7 and at width 17
 abbrev pub headed-text : Option ℕ → Option ℕ → List (List ℕ) → List ℕ

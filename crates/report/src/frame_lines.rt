@@ -5,7 +5,7 @@ ghost use lib.ListN.{length};
 ghost use Rattle.std.specs.Of.String.{string-bytes};
 ghost use Rattle.std.specs.Vec.{made};
 ghost use Rattle.frame.specs.Code.{code};
-ghost use Rattle.report.specs.Text.{lines, unhex, line-outcome, outcome-text, frames-text};
+ghost use Rattle.report.specs.Text.{lines, decoded, line-outcome, outcome-text, frames-text};
 use crate::hex::decode;
 use crate::lines::split_line;
 use crate::words::describe;
@@ -25,7 +25,7 @@ fn open_line<F: Field, C: ColumnSet>(
     line: &[u8],
 ) -> Result<String, AllocError>
     requires { ⌜ b ≤ 16 ⌝ }
-    ensures { λ r. ⌜ made r (λ s. string-bytes s ≡ outcome-text (line-outcome (code m mul (columns (now (set .entry))) (height (now (set .entry)))) b (unhex (now (line .entry))))) ⌝ }
+    ensures { λ r. ⌜ made r (λ s. string-bytes s ≡ outcome-text (line-outcome (code m mul (columns (now (set .entry))) (height (now (set .entry)))) b (decoded (now (line .entry))))) ⌝ }
 {
     let Some(frame) = decode(heap, line)? else {
         return refuse(heap, OpenFault::Size);

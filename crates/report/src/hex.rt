@@ -5,7 +5,7 @@ ghost use Rattle.std.specs.Of.Vec.{vec-items};
 ghost use Rattle.std.specs.Options.{mapped};
 ghost use Rattle.std.specs.Slices.{found};
 ghost use Rattle.std.specs.Vec.{made};
-ghost use Rattle.report.specs.Text.{digit, byte, unhex};
+ghost use Rattle.report.specs.Text.{digit, byte, decoded};
 use std::alloc::AllocError;
 use std::alloc::Global;
 
@@ -33,7 +33,7 @@ fn pair_value(high: u8, low: u8) -> Option<u8>
 
 // The bytes that a line stands for, if it is pairs of digits.
 pub(crate) fn decode(heap: Global, line: &[u8]) -> Result<Option<Vec<u8>>, AllocError>
-    ensures { λ r. ⌜ made r (λ o. mapped vec-items o ≡ unhex (now (line .entry))) ⌝ }
+    ensures { λ r. ⌜ made r (λ o. mapped vec-items o ≡ decoded (now (line .entry))) ⌝ }
 {
     let mut bytes = Vec::new(heap);
     let mut rest = line;

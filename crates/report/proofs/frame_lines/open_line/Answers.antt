@@ -12,7 +12,7 @@ use Rattle.std.specs.declared.option.Option.the-variants.{Some}
 use Rattle.std.proofs.shelf.Results.{made-weaker}
 use Rattle.frame.specs.Code.{Code, code}
 use Rattle.frame.specs.Opening.{Outcome, row-opening}
-use Rattle.report.specs.Text.{unhex, verdict-text, refusal-text, outcome-text, line-outcome}
+use Rattle.report.specs.Text.{decoded, verdict-text, refusal-text, outcome-text, line-outcome}
 use Rattle.report.proofs.Wording.{opened-words, refused-words, line-words}
 use Rattle.report.proofs.frame_lines.open_line.Given as given
 use Rattle.report.proofs.frame_lines.open_line.Needs as need
@@ -30,12 +30,12 @@ module _ (g : given.Over) (c : After-open g) where
   opened = row-opening K (length row) (c .deref .result .now)
 
   abbrev wanted : List ℕ
-  wanted = outcome-text (line-outcome K (c .args .b) (unhex (c .args .line .now)))
+  wanted = outcome-text (line-outcome K (c .args .b) (decoded (c .args .line .now)))
 
   told : outcome-text opened ≡ wanted
   told =
       let bytes = vec-items (c .in-Some .frame) in
-      let read : Some bytes ≡ unhex (c .args .line .now) = sym (ap (mapped vec-items) (c .in-Some .is)) ∙ c .in-Continue-frame .ensures tt in
+      let read : Some bytes ≡ decoded (c .args .line .now) = sym (ap (mapped vec-items) (c .in-Some .is)) ∙ c .in-Continue-frame .ensures tt in
       let fits : c .args .b - 0 ≤ 16 = omega arith in
       let long : length row ≡ c .args .b = length-take-le (c .args .b - 0) (replicate 16 0) fits ∙ sub-zero (c .args .b) in
       line-words K (length row) (c .args .b) (c .deref .result .now) bytes (c .args .line .now) long (c .deref .ensures .value) read

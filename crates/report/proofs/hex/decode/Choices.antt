@@ -3,11 +3,11 @@ use mathlib.Core.List.{_++_}
 use lib.ListN.{length}
 use Rattle.std.specs.Of.Vec.{vec-items}
 use Rattle.std.specs.Options.{mapped}
-use Rattle.report.specs.Text.{unhex}
+use Rattle.report.specs.Text.{decoded}
 use Rattle.report.proofs.hex.decode.Given as given
 
 abbrev pub Inv-loop-rest : given.InvT-loop-rest
-Inv-loop-rest l = mapped (λ more. vec-items (l .bytes) ++ more) (unhex (l .rest)) ≡ unhex (l .line)
+Inv-loop-rest l = mapped (λ more. vec-items (l .bytes) ++ more) (decoded (l .rest)) ≡ decoded (l .line)
 
 abbrev pub μ-loop-rest : given.MeasureT-loop-rest
 μ-loop-rest l = length (l .rest)
