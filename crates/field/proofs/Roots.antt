@@ -33,7 +33,7 @@ module _ (m : ℕ) (mul : ℕ → ℕ → ℕ) (laws : Laws m mul) where
   tails-length x [] = refl
   tails-length x (c ∷ cs) = ap suc (tails-length x cs)
 
-  mul-left-xor : (x y z : ℕ) → x < 2 ^ m → y < 2 ^ m → z < 2 ^ m → mul (bitXor x y) z ≡ bitXor (mul x z) (mul y z)
+  pub mul-left-xor : (x y z : ℕ) → x < 2 ^ m → y < 2 ^ m → z < 2 ^ m → mul (bitXor x y) z ≡ bitXor (mul x z) (mul y z)
   mul-left-xor x y z hx hy hz =
       laws .comm (bitXor x y) z (xor-lt m x y hx hy) hz ∙ laws .distributes z x y hz hx hy
       ∙ ap₂ bitXor (laws .comm z x hz hx) (laws .comm z y hz hy)

@@ -18,6 +18,7 @@ use Rattle.bits.specs.Rows.{part}
 use Rattle.field.specs.Laws.{Laws}
 use Rattle.field.specs.Powers.{power}
 use Rattle.field.proofs.Powers.{mul-zero, mul-one, power-lt}
+use Rattle.field.proofs.Roots.{mul-left-xor}
 use Rattle.frame.specs.Checks.{terms, weight, check-value}
 use Rattle.frame.specs.Code.{places}
 use Rattle.frame.specs.Opening.{flipped}
@@ -48,10 +49,6 @@ pub xor-right : (a b c : ℕ) → bitXor (bitXor a b) c ≡ bitXor (bitXor a c) 
 xor-right a b c = xor-assoc a b c ∙ ap (bitXor a) (xor-comm b c) ∙ sym (xor-assoc a c b)
 
 module _ (m : ℕ) (mul : ℕ → ℕ → ℕ) (laws : Laws m mul) (a : ℕ) (small : a < 2 ^ m) where
-  sum-times : (x y z : ℕ) → x < 2 ^ m → y < 2 ^ m → z < 2 ^ m → mul (bitXor x y) z ≡ bitXor (mul x z) (mul y z)
-  sum-times x y z hx hy hz =
-      laws .comm (bitXor x y) z (xor-lt m x y hx hy) hz ∙ laws .distributes z x y hz hx hy ∙ ap₂ bitXor (laws .comm z x hz hx) (laws .comm z y hz hy)
-
   term-lt : (y i : ℕ) → y < 2 ^ m → mul y (power mul a i) < 2 ^ m
   term-lt y i h = laws .closed y (power mul a i) h (power-lt m mul laws a i small)
 
@@ -89,7 +86,7 @@ module _ (m : ℕ) (mul : ℕ → ℕ → ℕ) (laws : Laws m mul) (a : ℕ) (sm
   terms-change i [] j e h he inside = absurd (omega arith)
   terms-change i (y ∷ ys) zero e h he inside =
       let p : power mul a i < 2 ^ m = power-lt m mul laws a i small in
-      ap (λ x. bitXor x (terms mul a (suc i) ys)) (sum-times y e (power mul a i) (h 0) he p)
+      ap (λ x. bitXor x (terms mul a (suc i) ys)) (mul-left-xor m mul laws y e (power mul a i) (h 0) he p)
       ∙ xor-right (mul y (power mul a i)) (mul e (power mul a i)) (terms mul a (suc i) ys)
       ∙ ap (λ k. bitXor (terms mul a i (y ∷ ys)) (mul e (power mul a k))) (sym (add-zero i))
   terms-change i (y ∷ ys) (suc j) e h he inside =

@@ -87,9 +87,6 @@ pub record Swept (V : Vault) (row : List ℕ) (i : ℕ) (after : List ℕ) (clea
   pub mended : mendeds ≡ tally mended-count V row i
   pub refused : refuseds ≡ tally refused-count V row i
 
-pub none-swept : (V : Vault) (row : List ℕ) → Swept V row 0 row 0 0 0
-none-swept V row = record { long = refl; each = λ c h. absurd (omega arith); rest = refl; clean = refl; mended = refl; refused = refl }
-
 module _ (V : Vault) (row : List ℕ) (i : ℕ) (inside : i < count V row) (mid : List ℕ) (x y z : ℕ) (done : Swept V row i mid x y z) where
   -- the next cell is still as it was
   same : cell V i mid ≡ cell V i row

@@ -10,6 +10,7 @@ use crate::answers::WriteFault;
 use crate::bytes::fetch;
 use crate::bytes::store;
 use crate::bytes::xor_into;
+use crate::parts::LONGEST;
 use crate::parts::Vault;
 use bank::Bank;
 use columns::ColumnSet;
@@ -34,7 +35,7 @@ impl<F: Field, C: ColumnSet, B: Bank> Vault<F, C, B> {
             return Err(WriteFault::Size);
         }
         let f = span.bytes;
-        let mut room = [0u8; 56];
+        let mut room = [0u8; LONGEST];
         let frame = &mut room[0..f];
         match seal::<F, C>(&self.set, word, salt, frame) {
             Ok(()) => {
@@ -56,7 +57,7 @@ impl<F: Field, C: ColumnSet, B: Bank> Vault<F, C, B> {
             return Err(ReadFault::Size);
         }
         let f = span.bytes;
-        let mut room = [0u8; 56];
+        let mut room = [0u8; LONGEST];
         let frame = &mut room[0..f];
         fetch(&self.bank, span.start, frame);
         match open::<F, C>(&self.set, frame, places) {
@@ -77,7 +78,7 @@ impl<F: Field, C: ColumnSet, B: Bank> Vault<F, C, B> {
         if pattern.len() != f {
             return Err(InjectFault::Size);
         }
-        let mut room = [0u8; 56];
+        let mut room = [0u8; LONGEST];
         let bytes = &mut room[0..f];
         fetch(&self.bank, span.start, bytes);
         xor_into(bytes, pattern);

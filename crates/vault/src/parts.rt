@@ -15,6 +15,9 @@ use frame::Unfit;
 use frame::frame_len;
 use std::marker::PhantomData;
 
+// The bytes of the longest frame: 18 parts of 24 bits, a sum of 8 bits and the parity bit.
+pub(crate) const LONGEST: usize = 56;
+
 // Cells of frames over any field, column set and bank.
 pub struct Vault<F: Field, C: ColumnSet, B: Bank> {
     field: PhantomData<F>,

@@ -7,6 +7,7 @@ ghost use Rattle.vault.specs.Calls.{Does, sweep as sweep-call, counted, cell-o
 use crate::answers::Counts;
 use crate::bytes::fetch;
 use crate::bytes::store;
+use crate::parts::LONGEST;
 use crate::parts::Vault;
 use bank::Bank;
 use columns::ColumnSet;
@@ -27,7 +28,7 @@ impl<F: Field, C: ColumnSet, B: Bank> Vault<F, C, B> {
             None => unreachable(),
         };
         let f = span.bytes;
-        let mut room = [0u8; 56];
+        let mut room = [0u8; LONGEST];
         let frame = &mut room[0..f];
         fetch(&self.bank, span.start, frame);
         let b = self.blocks;
