@@ -1,4 +1,6 @@
 // Banks: rows of bytes of a fixed length, and the interface that every implementation shows.
+#![tactic(auto)]
+
 ghost use Rattle.std.specs.Prelude.{◌≡◌, ℕ, ◌≤◌, List, length, OnErr};
 ghost use Rattle.bank.specs.Calls.{fault_number, Gives, Puts};
 ghost use Rattle.bank.specs.Rows.{Seams};

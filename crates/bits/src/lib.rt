@@ -1,4 +1,6 @@
 // Rows of bytes read and written as binary numbers, and sums over binary digits.
+#![tactic(auto)]
+
 ghost use Rattle.std.specs.Prelude.{◌≡◌, ◌+◌, ◌*◌, ◌%◌, ◌^◌, ◌<◌, min, length, bit_or, slice_index};
 ghost use Rattle.bits.specs.Rows.{Bytes, little, part};
 

@@ -1,4 +1,6 @@
 // Sealing and opening for callers in C and in Rust, at the two kinds of stick: numbers and slices of numbers go in and out.
+#![tactic(auto)]
+
 ghost use Rattle.std.specs.Prelude.{◌≡◌, length};
 ghost use Rattle.frame.specs.Code.{code};
 ghost use Rattle.frame.specs.Opening.{row_opening, answer, filled};

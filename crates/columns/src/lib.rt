@@ -1,4 +1,6 @@
 // Column sets: the interface, and the laws that every implementation shows.
+#![tactic(auto)]
+
 ghost use Rattle.std.specs.Prelude.{◌≡◌, ℕ, List, length, slice_index};
 ghost use Rattle.columns.specs.Columns.{Laws};
 

@@ -1,4 +1,6 @@
 // Fields of 2^m elements: the interface, and the laws that every implementation shows.
+#![tactic(auto)]
+
 ghost use Rattle.std.specs.Prelude.{◌≡◌, ℕ, ◌^◌, ◌<◌, ◌≤◌, MatchOption, bit_xor};
 ghost use Rattle.field.specs.Laws.{Laws};
 

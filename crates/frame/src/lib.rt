@@ -1,4 +1,6 @@
 // Frames: a word sealed with a salt, and opened again.
+#![tactic(auto)]
+
 mod layout;
 mod opener;
 mod parts;

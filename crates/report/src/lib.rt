@@ -1,4 +1,6 @@
 // What the program `stick` prints for what it reads.
+#![tactic(auto)]
+
 ghost use Rattle.std.specs.Prelude.{◌≡◌, IfOk, string_bytes};
 ghost use Rattle.report.specs.Text.{report_text};
 

@@ -1,4 +1,6 @@
 // Salts: which numbers are admitted, the token that holds one, and the noise that they are drawn from.
+#![tactic(auto)]
+
 mod admission;
 mod source;
 #[cfg(test)]

@@ -1,4 +1,6 @@
 // Reads frames from standard input, and prints what each of them opens to.
+#![tactic(auto)]
+
 use report::report_from;
 use std::io;
 

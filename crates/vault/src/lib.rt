@@ -1,4 +1,6 @@
 // The vault: words in the cells of a bank, each sealed as a frame.
+#![tactic(auto)]
+
 mod answers;
 mod bytes;
 mod calls;

@@ -14,6 +14,6 @@ shifted v at h =
 pub returns : goal.returns
 returns c =
     record {
-      long = c.or-bytes.auto.row;
-      ored = c.or-bytes.ensures ∙ ap (λ (x : ℕ). bit_or (little c.args.row.now) x % 2 ^ (8 * length c.args.row.now)) (shifted c.args.value c.args.at c.ranges.value.fits);
+      long = c.or_bytes.auto.row;
+      ored = c.or_bytes.ensures ∙ ap (λ (x : ℕ). bit_or (little c.args.row.now) x % 2 ^ (8 * length c.args.row.now)) (shifted c.args.value c.args.at c.ranges.value.fits);
     }

@@ -16,9 +16,9 @@ digits xs i h =
     omega (arith, lower xs i (i + 1) 24 h (omega arith), lower xs (i + 1) (i + 2) 16 h (omega arith), lower xs (i + 2) (i + 3) 8 h (omega arith), byte_part xs (i + 3) h)
 
 pub returns-then-i-row : goal.returns-then-i-row
-returns-then-i-row c = c.four-bytes.ensures ∙ digits c.args.row.now c.args.i c.type-inv.row
+returns-then-i-row c = c.four_bytes.ensures ∙ digits c.args.row.now c.args.i c.type_inv.row
 
 pub returns : goal.returns
 returns c =
-    c.four-bytes-2.ensures
-    ∙ simp (c.byte-at.ensures, c.byte-at-2.ensures, c.byte-at-3.ensures, c.byte-at-4.ensures) (digits c.args.row.now c.args.i c.type-inv.row)
+    c.four_bytes-2.ensures
+    ∙ simp (c.byte_at.ensures, c.byte_at-2.ensures, c.byte_at-3.ensures, c.byte_at-4.ensures) (digits c.args.row.now c.args.i c.type_inv.row)
