@@ -6,8 +6,8 @@ use Rattle.std.proofs.ByRecursion.{All-from_get_or}
 use Rattle.columns.proofs.Picks.{digit_le, sum_more}
 use Rattle.columns.proofs.sum.column_sum.Goals as goal
 
-pub overflow-mul-sum : goal.overflow-mul-sum
-overflow-mul-sum g c =
+pub overflow_mul-sum : goal.overflow_mul-sum
+overflow_mul-sum g c =
     let le : bit_and c.loop-bit.rest 1 * c.column.result ≤ c.column.result = rw (and_mask c.loop-bit.rest 1) (digit_le c.loop-bit.rest c.column.result) in
     record { fits = omega arith }
 

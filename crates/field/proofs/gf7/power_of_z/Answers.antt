@@ -14,8 +14,8 @@ value i =
     powers_at (product 6 137) 2 127 (orbit 127 (times_z 6 137) 1) refl (i % 127) (mod-lt i (lit< tt))
     ∙ power_mod 7 (product 6 137) laws7 2 127 (lit< tt) refl i
 
-pub invariant-of-result : goal.invariant-of-result
-invariant-of-result c =
+pub invariant_of-result : goal.invariant_of-result
+invariant_of-result c =
     let i = c.args.i in
     (rw (value i) (power_lt 7 (product 6 137) laws7 2 i (lit< tt)), tt)
 

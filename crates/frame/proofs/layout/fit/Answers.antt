@@ -19,8 +19,8 @@ promises K field columns = record {
   one_block = one_block K field;
 }
 
-pub returns-then-is-fit : goal.returns-then-is-fit
-returns-then-is-fit g c = record { answer = search rules; promises = promises _ g.F.Field.laws (g.C.ColumnSet.laws c.args.set.now) }
+pub returns-then-is_fit : goal.returns-then-is_fit
+returns-then-is_fit g c = record { answer = search rules; promises = promises _ g.F.Field.laws (g.C.ColumnSet.laws c.args.set.now) }
 
-pub returns-else-is-fit : goal.returns-else-is-fit
-returns-else-is-fit g c = record { answer = search rules; promises = promises _ g.F.Field.laws (g.C.ColumnSet.laws c.args.set.now) }
+pub returns-else-is_fit : goal.returns-else-is_fit
+returns-else-is_fit g c = record { answer = search rules; promises = promises _ g.F.Field.laws (g.C.ColumnSet.laws c.args.set.now) }

@@ -25,19 +25,19 @@ change_more g c =
     c.multiply-change.ensures ∙ ap₂ f.mul c.block-a.ensures c.loop-j.invariant.0
     ∙ past f.m f.mul f.laws c.args.salt c.requires.small (2 ^ c.args.bit) c.loop-j.j (pow-lt c.requires.inside)
 
-pub returns-then-number-of-difference : goal.returns-then-number-of-difference
-returns-then-number-of-difference g c =
+pub returns-then-number_of-difference : goal.returns-then-number_of-difference
+returns-then-number_of-difference g c =
     let f = g.F.Field in
     let test : ℕ → Bool = λ j. eqb (f.mul (2 ^ c.args.bit) (power f.mul c.args.salt (suc j))) c.args.difference in
-    let changed = change_more g (goal.at.returns-then-number-of-difference g c).After-multiply-change in
-    record { within = c.loop-j-test.true; value = sym (first_hit test c.args.b c.loop-j.j c.loop-j-test.true (eq-eqb _ c.args.difference (sym changed ∙ sym c.number-of.ensures ∙ c.if-number-of-difference.true)) c.loop-j.invariant.1) }
+    let changed = change_more g (goal.at.returns-then-number_of-difference g c).After-multiply-change in
+    record { within = c.loop-j-test.true; value = sym (first_hit test c.args.b c.loop-j.j c.loop-j-test.true (eq-eqb _ c.args.difference (sym changed ∙ sym c.number_of.ensures ∙ c.if-number_of-difference.true)) c.loop-j.invariant.1) }
 
 pub loop-j-preserved : goal.loop-j-preserved
 loop-j-preserved g c =
     let f = g.F.Field in
     let changed = change_more g (goal.at.loop-j-preserved g c).After-multiply-change in (
       changed ∙ ap (λ k. f.mul (2 ^ c.args.bit) (power f.mul c.args.salt k)) (sym (add-one c.loop-j.j)),
-      below_more _ _ c.loop-j.invariant.1 (ne_eqb _ c.args.difference (λ same. c.if-number-of-difference.false (c.number-of.ensures ∙ changed ∙ same))),
+      below_more _ _ c.loop-j.invariant.1 (ne_eqb _ c.args.difference (λ same. c.if-number_of-difference.false (c.number_of.ensures ∙ changed ∙ same))),
     )
 
 pub returns : goal.returns

@@ -29,7 +29,7 @@ returns-in-None g c =
     let set = c.args.set.now in
     let K : Code = code f.m f.mul (s.columns set) (s.height set) in
     let ys = c.args.word.now in
-    let part = c.beside.ensures ∙ ap (λ r. beside r c.args.syndrome) c.sum-bits.ensures in
+    let part = c.beside.ensures ∙ ap (λ r. beside r c.args.syndrome) c.sum_bits.ensures in
     let is = ap (beside_hit f.m f.mul ys c.args.salt c.args.check) part
     ∙ ap (by_column K ys c.args.salt c.args.check c.args.syndrome) (sym (column_missing (s.columns set) c.args.syndrome c.in-None.ensures.answer)) in
     record { answer = c.beside_hit.ensures ∙ ap answer is; word = sym (beside_keeps f.m f.mul ys c.args.salt c.args.check c.beside.result) ∙ ap (λ o. filled o ys) is }

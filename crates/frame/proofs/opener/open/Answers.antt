@@ -16,7 +16,7 @@ whole g c =
     let K : Code = code f.m f.mul (g.C.ColumnSet.columns c.args.set.now) (g.C.ColumnSet.height c.args.set.now) in
     let b = length c.args.row.now in
     let known = length_parts K b c.in-Some.bytes c.in-Some.ensures in
-    row_opens K b c.args.frame.now known.0.0 known.0.1 (c.if-frame-bytes.false ∙ known.1)
+    row_opens K b c.args.frame.now known.0.0 known.0.1 (c.if-frame_bytes.false ∙ known.1)
 
 -- the part of the room that is lent has b places
 room : (b : ℕ) → b ≤ 16 → length {A = ℕ} (take (b - 0) (replicate 16 0)) ≡ b
@@ -35,12 +35,12 @@ decided g c =
     let K : Code = code f.m f.mul (g.C.ColumnSet.columns c.args.set.now) (g.C.ColumnSet.height c.args.set.now) in
     c.decide.ensures.answer ∙ ap (λ n. answer (opening K n (little c.args.frame.now))) (room (length c.args.row.now) (few g c)) ∙ ap answer (sym (whole g c))
 
-pub returns-in-err-opened : goal.returns-in-err-opened
-returns-in-err-opened g c =
-    let is = decided g (goal.at.returns-in-err-opened g c).After-decide in
+pub returns-in_err-opened : goal.returns-in_err-opened
+returns-in_err-opened g c =
+    let is = decided g (goal.at.returns-in_err-opened g c).After-decide in
     let p = err_from_is_err_and c.from-residual.result c.from-residual.ensures.1 in
-    let told = sym c.in-err-opened.was ∙ is in
-    record { answer = p.1 ∙ ap Err p.2 ∙ told; row = sym (filled_err _ c.in-err-opened.field-0.0 c.args.row.now told) }
+    let told = sym c.in_err-opened.was ∙ is in
+    record { answer = p.1 ∙ ap Err p.2 ∙ told; row = sym (filled_err _ c.in_err-opened.field-0.0 c.args.row.now told) }
 
 pub returns : goal.returns
 returns g c =
@@ -49,9 +49,9 @@ returns g c =
     let N = little c.args.frame.now in
     let at = (goal.at.returns g c).After-decide in
     let b = length c.args.row.now in
-    let told = sym c.in-ok-opened.was ∙ decided g at in
+    let told = sym c.in_ok-opened.was ∙ decided g at in
     record {
       answer = told;
-      row = c.copy-from-slice.ensures.after ∙ c.decide.ensures.word ∙ ap (λ n. filled (opening K n N) (places f.m n N)) (room b (few g at))
-          ∙ ap (λ o. filled o (places f.m b N)) (sym (whole g at)) ∙ filled_ok _ c.in-ok-opened.opened _ _ told;
+      row = c.copy_from_slice.ensures.after ∙ c.decide.ensures.word ∙ ap (λ n. filled (opening K n N) (places f.m n N)) (room b (few g at))
+          ∙ ap (λ o. filled o (places f.m b N)) (sym (whole g at)) ∙ filled_ok _ c.in_ok-opened.opened _ _ told;
     }

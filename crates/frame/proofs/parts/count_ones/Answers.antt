@@ -5,8 +5,8 @@ use Rattle.std.proofs.lemmas.List.{at_drop_more, at_drop_all}
 use Rattle.frame.specs.Checks.{all_ones}
 use Rattle.frame.proofs.parts.count_ones.Goals as goal
 
-pub overflow-add-ones : goal.overflow-add-ones
-overflow-add-ones c =
+pub overflow_add-ones : goal.overflow_add-ones
+overflow_add-ones c =
     let few : ones (get_or c.args.word.now c.loop-block.block-index 0) ≤ 32 = ones-le 32 (get_or c.args.word.now c.loop-block.block-index 0) (search rules) in
     search rules
 

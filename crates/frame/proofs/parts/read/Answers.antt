@@ -13,12 +13,12 @@ returns c =
     let r = c.args.r in
     let whole : min m 24 ≡ m = omega arith in
     let short : min r 24 ≡ r = omega arith in
-    let mask = c.get-bits-mask.ensures ∙ ap (part N (b * m)) whole in
-    let sum = c.get-bits-sum.ensures ∙ ap (part N ((b + 1) * m)) short in
-    let check = c.get-bits-check.ensures ∙ ap (part N ((b + 1) * m + r)) whole in
-    let counted = c.count-ones.ensures.value ∙ ap all_ones c.read-word.ensures in
+    let mask = c.get_bits-mask.ensures ∙ ap (part N (b * m)) whole in
+    let sum = c.get_bits-sum.ensures ∙ ap (part N ((b + 1) * m)) short in
+    let check = c.get_bits-check.ensures ∙ ap (part N ((b + 1) * m + r)) whole in
+    let counted = c.count_ones.ensures.value ∙ ap all_ones c.read_word.ensures in
     let all = ones_frame m r b N in
     let ones-mask = ap ones mask in
     let ones-sum = ap ones sum in
     let ones-check = ap ones check in
-    record { blocks = c.read-word.ensures; mask = mask; sum = sum; check = check; ones = omega (arith, c.get-bits-parity.ensures) }
+    record { blocks = c.read_word.ensures; mask = mask; sum = sum; check = check; ones = omega (arith, c.get_bits-parity.ensures) }

@@ -11,8 +11,8 @@ loop-i-preserved c =
     let inside : i < length c.loop-i.word = omega arith in
     let whole : min m 24 ≡ m = omega arith in
     below_more _ _
-    (λ k h. let ne : k ≢ i = omega arith in get_or-set_other c.loop-i.word i k c.get-bits.result 0 ne ∙ c.loop-i.invariant k h)
-    (get_or-set_same c.loop-i.word i c.get-bits.result 0 inside ∙ c.get-bits.ensures ∙ ap (part N (i * m)) whole)
+    (λ k h. let ne : k ≢ i = omega arith in get_or-set_other c.loop-i.word i k c.get_bits.result 0 ne ∙ c.loop-i.invariant k h)
+    (get_or-set_same c.loop-i.word i c.get_bits.result 0 inside ∙ c.get_bits.ensures ∙ ap (part N (i * m)) whole)
 
 pub returns : goal.returns
 returns c =

@@ -10,23 +10,23 @@ use Rattle.frame.proofs.renewal.renew.Given as given
 use Rattle.frame.proofs.renewal.renew.Goals as goal
 use Rattle.frame.proofs.renewal.renew.Goals.{In-Mended}
 
-pub returns-in-err-verdict : goal.returns-in-err-verdict
-returns-in-err-verdict g c =
+pub returns-in_err-verdict : goal.returns-in_err-verdict
+returns-in_err-verdict g c =
     let f = g.F.Field in
     let K : Code = code f.m f.mul (g.C.ColumnSet.columns c.args.set.now) (g.C.ColumnSet.height c.args.set.now) in
     let p = err_from_is_err_and c.from-residual.result c.from-residual.ensures.1 in
-    let told = c.in-err-verdict.ensures in
+    let told = c.in_err-verdict.ensures in
     record { answer = p.1 ∙ ap Err p.2 ∙ told.answer; row = told.row; frame = sym (refused_stays K _ _ c.args.frame.now told.answer) }
 
 -- the frame was mended to the word in the row
-is_mended : (g : given.Over) (c : In-Mended g) → row_opening (code g.F.Field.m g.F.Field.mul (g.C.ColumnSet.columns c.args.set.now) (g.C.ColumnSet.height c.args.set.now)) (length c.args.row.now) c.args.frame.now ≡ mended c.in-Mended.field-0 c.open.new.row c.in-ok-verdict.salt
+is_mended : (g : given.Over) (c : In-Mended g) → row_opening (code g.F.Field.m g.F.Field.mul (g.C.ColumnSet.columns c.args.set.now) (g.C.ColumnSet.height c.args.set.now)) (length c.args.row.now) c.args.frame.now ≡ mended c.in-Mended.field-0 c.open.new.row c.in_ok-verdict.salt
 is_mended g c =
     let f = g.F.Field in
     let K : Code = code f.m f.mul (g.C.ColumnSet.columns c.args.set.now) (g.C.ColumnSet.height c.args.set.now) in
     let o = row_opening K (length c.args.row.now) c.args.frame.now in
-    let told = c.in-ok-verdict.ensures in
-    mended_answer o c.in-Mended.field-0 c.in-ok-verdict.salt c.args.row.now (ap (λ v. Ok (v, c.in-ok-verdict.salt)) (sym c.in-Mended.is) ∙ told.answer)
-    ∙ ap (λ ys. mended c.in-Mended.field-0 ys c.in-ok-verdict.salt) (sym told.row)
+    let told = c.in_ok-verdict.ensures in
+    mended_answer o c.in-Mended.field-0 c.in_ok-verdict.salt c.args.row.now (ap (λ v. Ok (v, c.in_ok-verdict.salt)) (sym c.in-Mended.is) ∙ told.answer)
+    ∙ ap (λ ys. mended c.in-Mended.field-0 ys c.in_ok-verdict.salt) (sym told.row)
 
 pub assemble-requires : goal.assemble-requires
 assemble-requires g c =
@@ -45,22 +45,22 @@ pub returns-in-Mended : goal.returns-in-Mended
 returns-in-Mended g c =
     let f = g.F.Field in
     let K : Code = code f.m f.mul (g.C.ColumnSet.columns c.args.set.now) (g.C.ColumnSet.height c.args.set.now) in
-    let told = c.in-ok-verdict.ensures in
+    let told = c.in_ok-verdict.ensures in
     let after = c.assemble.new.frame in
     let long : length after ≡ length c.args.frame.now = omega arith in
     record {
       answer = told.answer;
       row = told.row;
-      frame = sym (bytes_little after c.type-inv.frame) ∙ ap₂ bytes_of long c.assemble.ensures ∙ ap (renewed K c.args.frame.now) (sym (is_mended g (goal.at.returns-in-Mended g c).In-Mended));
+      frame = sym (bytes_little after c.type_inv.frame) ∙ ap₂ bytes_of long c.assemble.ensures ∙ ap (renewed K c.args.frame.now) (sym (is_mended g (goal.at.returns-in-Mended g c).In-Mended));
     }
 
-pub returns-in-default : goal.returns-in-default
-returns-in-default g c =
+pub returns-in_default : goal.returns-in_default
+returns-in_default g c =
     let f = g.F.Field in
     let K : Code = code f.m f.mul (g.C.ColumnSet.columns c.args.set.now) (g.C.ColumnSet.height c.args.set.now) in
-    let told = c.in-ok-verdict.ensures in
+    let told = c.in_ok-verdict.ensures in
     record {
       answer = told.answer;
       row = told.row;
-      frame = sym (clean_stays K _ c.in-ok-verdict.salt c.args.frame.now (ap (λ v. Ok (v, c.in-ok-verdict.salt)) (sym c.in-default.is) ∙ told.answer));
+      frame = sym (clean_stays K _ c.in_ok-verdict.salt c.args.frame.now (ap (λ v. Ok (v, c.in_ok-verdict.salt)) (sym c.in_default.is) ∙ told.answer));
     }

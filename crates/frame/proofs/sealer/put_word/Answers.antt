@@ -18,7 +18,7 @@ loop-i-preserved c =
     let small : low < 2 ^ (i * m) = subst (λ n. low < 2 ^ (n * m)) long (stacked_lt m (take i ys) (below_take m i ys c.requires.blocks)) in
     let next : suc i * m ≤ length ys * m = mul-le-mul_right m c.loop-i-test.true in
     let room : i * m + m ≤ 8 * length c.loop-i.frame = omega (arith, suc-mul i m, c.requires.room) in
-    c.put-bits.ensures.ored ∙ ap (λ n. bit_or n (y * 2 ^ (i * m)) % 2 ^ (8 * length c.loop-i.frame)) c.loop-i.invariant
+    c.put_bits.ensures.ored ∙ ap (λ n. bit_or n (y * 2 ^ (i * m)) % 2 ^ (8 * length c.loop-i.frame)) c.loop-i.invariant
     ∙ or_fresh low y (i * m) m (8 * length c.loop-i.frame) small (c.requires.blocks i) room
     ∙ ap (λ n. y * 2 ^ (n * m) + low) (sym long) ∙ sym (stacked_push m (take i ys) y) ∙ ap (λ l. stacked m l 0) (sym (take_more ys i 0 c.loop-i-test.true))
 

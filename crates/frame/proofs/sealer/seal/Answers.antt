@@ -7,16 +7,16 @@ use Rattle.frame.proofs.sealer.seal.Given as given
 use Rattle.frame.proofs.sealer.seal.Goals as goal
 use Rattle.frame.proofs.sealer.seal.Goals.{In-ok-sealable}
 
-pub returns-in-err-sealable : goal.returns-in-err-sealable
-returns-in-err-sealable g c =
+pub returns-in_err-sealable : goal.returns-in_err-sealable
+returns-in_err-sealable g c =
     let f = g.F.Field in
     let K : Code = code f.m f.mul (g.C.ColumnSet.columns c.args.set.now) (g.C.ColumnSet.height c.args.set.now) in
     let p = err_from_is_err_and c.from-residual.result c.from-residual.ensures.1 in
-    let told = c.in-err-sealable.ensures ∙ ap (λ a. seal_answer (row_sealing K c.args.word.now a (length c.args.frame.now))) c.value-number.ensures in
+    let told = c.in_err-sealable.ensures ∙ ap (λ a. seal_answer (row_sealing K c.args.word.now a (length c.args.frame.now))) c.value-number.ensures in
     record { answer = p.1 ∙ ap Err p.2 ∙ told; frame = sym (sealed_refused _ _ c.args.frame.now told) }
 
 passes : (g : given.Over) (c : In-ok-sealable g) → Sealing (code g.F.Field.m g.F.Field.mul (g.C.ColumnSet.columns c.args.set.now) (g.C.ColumnSet.height c.args.set.now)) c.args.word.now c.value-number.result (length c.args.frame.now)
-passes g c = sealing_passes _ _ _ _ c.in-ok-sealable.ensures
+passes g c = sealing_passes _ _ _ _ c.in_ok-sealable.ensures
 
 pub assemble-requires : goal.assemble-requires
 assemble-requires g c =
@@ -34,6 +34,6 @@ returns g c =
     let drawn = ap (λ a. row_sealing K ys a (length before)) c.value-number.ensures in
     let long : length after ≡ length before = omega arith in
     record {
-      answer = c.in-ok-sealable.ensures ∙ ap seal_answer drawn;
-      frame = sym (bytes_little after c.type-inv.frame) ∙ ap₂ bytes_of long c.assemble.ensures ∙ ap (λ s. sealed_row s before) (sym ok.is ∙ drawn);
+      answer = c.in_ok-sealable.ensures ∙ ap seal_answer drawn;
+      frame = sym (bytes_little after c.type_inv.frame) ∙ ap₂ bytes_of long c.assemble.ensures ∙ ap (λ s. sealed_row s before) (sym ok.is ∙ drawn);
     }

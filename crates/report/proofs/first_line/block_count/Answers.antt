@@ -5,5 +5,5 @@ use Rattle.report.proofs.first_line.block_count.Goals as goal
 
 pub loop-b-preserved : goal.loop-b-preserved
 loop-b-preserved c =
-    first_more (λ b. bytes_eq (decimal c.args.width ++ 32 ∷ decimal b) c.args.line.now) c.loop-b.b 17 c.loop-b-test.true (sym c.in-ok-is-first-line.ensures ∙ c.if-branch.false)
+    first_more (λ b. bytes_eq (decimal c.args.width ++ 32 ∷ decimal b) c.args.line.now) c.loop-b.b 17 c.loop-b-test.true (sym c.in_ok-is_first_line.ensures ∙ c.if-branch.false)
     ∙ c.loop-b.invariant

@@ -9,5 +9,5 @@ tested xs ys r h = search (rules, bytes_eq-Decides)
 
 pub returns : goal.returns
 returns c =
-    let wanted : c.as-bytes.result.now ≡ decimal c.args.width ++ 32 ∷ decimal c.args.b = c.as-bytes.ensures.value ∙ c.in-ok-wanted.ensures.ok in
+    let wanted : c.as_bytes.result.now ≡ decimal c.args.width ++ 32 ∷ decimal c.args.b = c.as_bytes.ensures.value ∙ c.in_ok-wanted.ensures.ok in
     tested _ _ _ (subst (λ xs. Decides c.eq.result (xs ≡ c.args.line.now)) wanted (slice_eq-Decides Decides-eqb _ _ _ c.eq.ensures))

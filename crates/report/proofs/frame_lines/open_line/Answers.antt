@@ -27,7 +27,7 @@ module _ (g : given.Over) (c : After-open g) where
   told : outcome_text opened ≡ wanted
   told =
       let bytes = vec_items c.in-Some.frame in
-      let read : Some bytes ≡ decoded c.args.line.now = sym (ap (option_map vec_items) c.in-Some.is) ∙ c.in-ok-frame.ensures in
+      let read : Some bytes ≡ decoded c.args.line.now = sym (ap (option_map vec_items) c.in-Some.is) ∙ c.in_ok-frame.ensures in
       let fits : c.args.b - 0 ≤ 16 = omega arith in
       let long : length row ≡ c.args.b = length-take-le (c.args.b - 0) (replicate 16 0) fits ∙ sub-zero c.args.b in
       line_words K (length row) c.args.b c.deref.result.now bytes c.args.line.now long c.deref.ensures.value read

@@ -5,5 +5,5 @@ use Rattle.report.proofs.hex.decode.Goals as goal
 
 pub loop-rest-preserved : goal.loop-rest-preserved
 loop-rest-preserved c =
-    decoded_more (vec_items c.loop-rest.bytes) _ c.loop-rest.rest.now _ c.in-Some.byte (search rules) c.in-Some.ensures c.in-ok-push.ensures.items (take_rest c.loop-rest.rest.now 2)
+    decoded_more (vec_items c.loop-rest.bytes) _ c.loop-rest.rest.now _ c.in-Some.byte (search rules) c.in-Some.ensures c.in_ok-push.ensures.items (take_rest c.loop-rest.rest.now 2)
     ∙ c.loop-rest.invariant

@@ -5,8 +5,8 @@ use Rattle.report.specs.Text.{lines}
 use Rattle.report.proofs.Cutting.{line_at, line_whole}
 use Rattle.report.proofs.lines.split_line.Goals as goal
 
-pub returns-then-is-empty : goal.returns-then-is-empty
-returns-then-is-empty c = ap lines (nil_from_length c.args.text.now (true-eqb _ 0 c.if-is-empty.ensures))
+pub returns-then-is_empty : goal.returns-then-is_empty
+returns-then-is_empty c = ap lines (nil_from_length c.args.text.now (true-eqb _ 0 c.if-is_empty.ensures))
 
 pub returns-then-x-eq10 : goal.returns-then-x-eq10
 returns-then-x-eq10 c =
@@ -15,5 +15,5 @@ returns-then-x-eq10 c =
 
 pub returns : goal.returns
 returns c =
-    let some : 0 < length c.args.text.now = omega (arith, false-eqb _ 0 c.if-is-empty.ensures) in
+    let some : 0 < length c.args.text.now = omega (arith, false-eqb _ 0 c.if-is_empty.ensures) in
     (line_whole c.args.text.now some (λ k l. c.loop-i.invariant k (omega arith)), some)

@@ -6,8 +6,8 @@ use Rattle.report.proofs.words.list_blocks.Goals as goal
 
 pub loop-y-preserved : goal.loop-y-preserved
 loop-y-preserved c =
-    let shown : string_bytes c.in-ok-format.field-0 ≡ 32 ∷ decimal (get_or c.args.word.now c.loop-y.y-index 0) = c.in-ok-format.ensures.ok in
-    numbers_more c.args.word.now c.loop-y.y-index (string_bytes c.loop-y.text) (string_bytes c.push-str.new.self) c.deref.result.now c.loop-y-test.true (c.deref.ensures ∙ shown) c.in-ok-push-str.ensures.bytes
+    let shown : string_bytes c.in_ok-format.field-0 ≡ 32 ∷ decimal (get_or c.args.word.now c.loop-y.y-index 0) = c.in_ok-format.ensures.ok in
+    numbers_more c.args.word.now c.loop-y.y-index (string_bytes c.loop-y.text) (string_bytes c.push_str.new.self) c.deref.result.now c.loop-y-test.true (c.deref.ensures ∙ shown) c.in_ok-push_str.ensures.bytes
     ∙ c.loop-y.invariant
 
 pub returns : goal.returns

@@ -18,17 +18,17 @@ loop-init g c =
     let below : c.args.a < 2 ^ g.F.Field.m = subst (λ (n : ℕ). n < 2 ^ g.F.Field.m) c.in-Some.ensures (g.met.F.Field.small c.in-Some.x) in
     (c.in-Some.ensures ∙ sym (mul-one g.F.Field.m g.F.Field.mul g.F.Field.laws c.args.a below), λ k l h e. omega arith)
 
-pub returns-then-number-of-eq1 : goal.returns-then-number-of-eq1
-returns-then-number-of-eq1 g c =
+pub returns-then-number_of-eq1 : goal.returns-then-number_of-eq1
+returns-then-number_of-eq1 g c =
     sym (returning g.F.Field.m g.F.Field.mul g.F.Field.laws c.args.b c.args.a c.loop.counter c.loop.auto.counter c.loop-test.true
-    (sym c.loop.invariant.0 ∙ sym c.number-of.ensures ∙ c.if-number-of-eq1.true))
+    (sym c.loop.invariant.0 ∙ sym c.number_of.ensures ∙ c.if-number_of-eq1.true))
 
 pub loop-preserved : goal.loop-preserved
 loop-preserved g c =
     let mul : ℕ → ℕ → ℕ = g.F.Field.mul in (
       c.multiply-power.ensures ∙ ap₂ mul c.in-Some.ensures c.loop.invariant.0 ∙ ap (power mul c.args.a) (sym (add-one c.loop.counter)),
       λ k l h e. ⊎_elim
-          (λ s. c.if-number-of-eq1.false (c.number-of.ensures ∙ c.loop.invariant.0 ∙ ap (power mul c.args.a) (sym s) ∙ e))
+          (λ s. c.if-number_of-eq1.false (c.number_of.ensures ∙ c.loop.invariant.0 ∙ ap (power mul c.args.a) (sym s) ∙ e))
           (λ n. c.loop.invariant.1 k l (omega (arith, n)) e)
           (cases_eq k c.loop.counter),
     )

@@ -12,7 +12,7 @@ step bytes row start i v inside room is before =
 
 pub loop-i-preserved : goal.loop-i-preserved
 loop-i-preserved g c =
-    step c.loop-i.bytes (g.B.Bank.row c.args.bank.now) c.args.start c.loop-i.i c.byte-at.result (omega arith) (omega arith) c.byte-at.ensures c.loop-i.invariant
+    step c.loop-i.bytes (g.B.Bank.row c.args.bank.now) c.args.start c.loop-i.i c.byte_at.result (omega arith) (omega arith) c.byte_at.ensures c.loop-i.invariant
 
 pub returns : goal.returns
 returns g c =

@@ -5,8 +5,8 @@ use Rattle.vault.proofs.bytes.store.Goals as goal
 pub loop-i-init : goal.loop-i-init
 loop-i-init g c = paste-zero (g.B.Bank.row c.args.bank.now) c.args.start c.args.bytes.now
 
-pub put-byte-requires : goal.put-byte-requires
-put-byte-requires g c =
+pub put_byte-requires : goal.put_byte-requires
+put_byte-requires g c =
     let row = g.B.Bank.row c.args.bank.now in
     omega (arith, ap length c.loop-i.invariant, length-paste row c.args.start c.args.bytes.now c.loop-i.i (omega arith) (omega arith))
 
@@ -16,7 +16,7 @@ loop-i-preserved g c =
     let at = c.args.start in
     let bytes = c.args.bytes.now in
     let i = c.loop-i.i in
-    c.put-byte.ensures ∙ ap (λ xs. set xs (at + i) (get_or bytes i 0)) c.loop-i.invariant
+    c.put_byte.ensures ∙ ap (λ xs. set xs (at + i) (get_or bytes i 0)) c.loop-i.invariant
     ∙ paste-suc row at bytes i 0 (omega arith) (omega arith) ∙ ap (paste row at bytes) (sym (add-one i))
 
 pub returns : goal.returns

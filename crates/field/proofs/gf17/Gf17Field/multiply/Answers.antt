@@ -8,13 +8,13 @@ value : (x y : ℕ) {long once r : ℕ} → x < 2 ^ 17 → long ≡ plain_produc
 value x y hx is-long is-once is = is ∙ ap (fold 17 3) (is-once ∙ ap (fold 17 3) is-long) ∙ reduced17 x y hx
 
 small : (c : goal.After-folded-2) → c.folded-2.result < 2 ^ 17
-small c = rw (value c.args.x.value c.args.y.value c.args.x.small c.shifted-sum-long.ensures c.folded.ensures c.folded-2.ensures) (laws17.closed c.args.x.value c.args.y.value c.args.x.small c.args.y.small)
+small c = rw (value c.args.x.value c.args.y.value c.args.x.small c.shifted_sum-long.ensures c.folded.ensures c.folded-2.ensures) (laws17.closed c.args.x.value c.args.y.value c.args.x.small c.args.y.small)
 
-pub overflow-cast-result : goal.overflow-cast-result
-overflow-cast-result c = let h = small c in omega arith
+pub overflow_cast-result : goal.overflow_cast-result
+overflow_cast-result c = let h = small c in omega arith
 
-pub invariant-of-result : goal.invariant-of-result
-invariant-of-result c = (small c, tt)
+pub invariant_of-result : goal.invariant_of-result
+invariant_of-result c = (small c, tt)
 
 pub returns : goal.returns
-returns c = value c.args.x.value c.args.y.value c.args.x.small c.shifted-sum-long.ensures c.folded.ensures c.folded-2.ensures
+returns c = value c.args.x.value c.args.y.value c.args.x.small c.shifted_sum-long.ensures c.folded.ensures c.folded-2.ensures

@@ -16,5 +16,5 @@ returns-then-x-eq0 c =
 
 pub returns : goal.returns
 returns c =
-    c.power-of-z.ensures ∙ power_add 7 (product 6 137) laws7 2 c.logarithm.result c.logarithm-2.result (lit< tt)
+    c.power_of_z.ensures ∙ power_add 7 (product 6 137) laws7 2 c.logarithm.result c.logarithm-2.result (lit< tt)
     ∙ ap₂ (product 6 137) c.logarithm.ensures.value c.logarithm-2.ensures.value

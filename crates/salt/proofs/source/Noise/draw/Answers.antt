@@ -29,7 +29,7 @@ loop-place-preserved g c =
     let width : c.degree-width.result ≡ g.F.Field.m = c.degree-width.ensures in
     underway_on g.F.Field.m g.F.Field.mul c.args.b c.args.self.now.bytes.now c.args.self.now.place c.loop-place.place _ c.loop-place.invariant
     (omega arith) (omega (arith, c.if-self-place.false))
-    (ap (admitted g.F.Field.m g.F.Field.mul c.args.b) (sym (candidate_read g.F.Field.m c.degree-width.result c.loop-place.place c.get-bits-candidate.result c.args.self.now.bytes.now width c.if-width-gt24.false c.get-bits-candidate.ensures)) ∙ sym c.if-not-admits.ensures)
+    (ap (admitted g.F.Field.m g.F.Field.mul c.args.b) (sym (candidate_read g.F.Field.m c.degree-width.result c.loop-place.place c.get_bits-candidate.result c.args.self.now.bytes.now width c.if-width-gt24.false c.get_bits-candidate.ensures)) ∙ sym c.if-not-admits.ensures)
 
 pub returns : goal.returns
 returns g c =
@@ -39,7 +39,7 @@ returns g c =
     let here : ℕ = c.loop-place.place in
     let after : ℕ = here + (c.degree-width.result + 7) / 8 in
     let further : after ≡ here + group_size m = omega arith in
-    let drawn-here : c.get-bits-candidate.result ≡ candidate m noise here = candidate_read m c.degree-width.result here c.get-bits-candidate.result noise width c.if-width-gt24.false c.get-bits-candidate.ensures in
+    let drawn-here : c.get_bits-candidate.result ≡ candidate m noise here = candidate_read m c.degree-width.result here c.get_bits-candidate.result noise width c.if-width-gt24.false c.get_bits-candidate.ensures in
     record {
       kept = refl;
       drawn = (

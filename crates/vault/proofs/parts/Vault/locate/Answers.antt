@@ -5,12 +5,12 @@ use Rattle.vault.proofs.Rows.{cell_inside}
 use Rattle.vault.proofs.Shelf.{below, standing}
 use Rattle.vault.proofs.parts.Vault.locate.Goals as goal
 
-pub overflow-mul-result : goal.overflow-mul-result
-overflow-mul-result g c =
+pub overflow_mul-result : goal.overflow_mul-result
+overflow_mul-result g c =
     let s = c.args.self.now in
     let V : Vault = vault (code g.F.Field.m g.F.Field.mul (g.C.ColumnSet.columns s.set) (g.C.ColumnSet.height s.set)) s.blocks s.cells in
     let row : List ℕ = g.B.Bank.row s.bank in
-    let told = c.in-ok-bytes.ensures in
+    let told = c.in_ok-bytes.ensures in
     let here : c.args.cell < count V row = below V row c.args.cell told.0 (omega arith) in
     record { fits = omega (arith, cell_inside V row c.args.cell here, g.B.Bank.short s.bank, ap (λ n. c.args.cell * n) told.1) }
 
@@ -19,7 +19,7 @@ returns g c =
     let s = c.args.self.now in
     let V : Vault = vault (code g.F.Field.m g.F.Field.mul (g.C.ColumnSet.columns s.set) (g.C.ColumnSet.height s.set)) s.blocks s.cells in
     let row : List ℕ = g.B.Bank.row s.bank in
-    let told = c.in-ok-bytes.ensures in
+    let told = c.in_ok-bytes.ensures in
     let here : c.args.cell < count V row = below V row c.args.cell told.0 (omega arith) in
     let place = ap (λ n. c.args.cell * n) told.1 in
     record {

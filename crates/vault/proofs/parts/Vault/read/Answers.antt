@@ -10,11 +10,11 @@ use Rattle.vault.proofs.parts.Vault.read.Given as given
 use Rattle.vault.proofs.parts.Vault.read.Goals as goal
 use Rattle.vault.proofs.parts.Vault.read.Goals.{After-open}
 
-pub returns-in-default : goal.returns-in-default
-returns-in-default g c =
+pub returns-in_default : goal.returns-in_default
+returns-in_default g c =
     let s = c.args.self.now in
     let V : Vault = vault (code g.F.Field.m g.F.Field.mul (g.C.ColumnSet.columns s.set) (g.C.ColumnSet.height s.set)) s.blocks s.cells in
-    record { does = read_no_cell V (g.B.Bank.row s.bank) c.args.cell c.args.places.now c.in-default.ensures.lies }
+    record { does = read_no_cell V (g.B.Bank.row s.bank) c.args.cell c.args.places.now c.in_default.ensures.lies }
 
 pub returns-then-places-self : goal.returns-then-places-self
 returns-then-places-self g c =

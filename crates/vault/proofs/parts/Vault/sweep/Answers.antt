@@ -18,7 +18,7 @@ same g s t e f h =
     ∙ ap₂ (vault (code g.F.Field.m g.F.Field.mul (g.C.ColumnSet.columns t.set) (g.C.ColumnSet.height t.set))) f h
 
 inside : (g : given.Over) (c : After-mend-found g) → c.loop-cell.cell < count (vault_of g c.args.self.now) (g.B.Bank.row c.args.self.now.bank)
-inside g c = subst (λ n. c.loop-cell.cell < n) c.cell-count-cell-end.ensures c.loop-cell-test.true
+inside g c = subst (λ n. c.loop-cell.cell < n) c.cell_count-cell-end.ensures c.loop-cell-test.true
 
 few : (g : given.Over) (c : After-mend-found g) → c.loop-cell.cell < 1024
 few g c =
@@ -26,23 +26,23 @@ few g c =
     let row : List ℕ = g.B.Bank.row c.args.self.now.bank in
     omega (arith, (count_fits (vault_fits V (length row)) V.cells c.loop-cell.cell (inside g c)).1, (standing V row c.loop-cell.cell (inside g c)).cells)
 
-pub overflow-add-counts : goal.overflow-add-counts
-overflow-add-counts g c =
-    let at = (goal.at.overflow-add-counts g c).After-mend-found in
+pub overflow_add-counts : goal.overflow_add-counts
+overflow_add-counts g c =
+    let at = (goal.at.overflow_add-counts g c).After-mend-found in
     let V : Vault = vault_of g c.args.self.now in
     let row : List ℕ = g.B.Bank.row c.args.self.now.bank in
     record { fits = omega (arith, few g at, c.loop-cell.invariant.3.clean, tally_le clean_count clean_once V row c.loop-cell.cell, c.mend-found.ensures.counts.0, clean_once (cell_opening (vault_of g c.loop-cell.self) c.loop-cell.cell (g.B.Bank.row c.loop-cell.self.bank))) }
 
-pub overflow-add-counts-in-loop-cell : goal.overflow-add-counts-in-loop-cell
-overflow-add-counts-in-loop-cell g c =
-    let at = (goal.at.overflow-add-counts-in-loop-cell g c).After-mend-found in
+pub overflow_add-counts-in-loop-cell : goal.overflow_add-counts-in-loop-cell
+overflow_add-counts-in-loop-cell g c =
+    let at = (goal.at.overflow_add-counts-in-loop-cell g c).After-mend-found in
     let V : Vault = vault_of g c.args.self.now in
     let row : List ℕ = g.B.Bank.row c.args.self.now.bank in
     record { fits = omega (arith, few g at, c.loop-cell.invariant.3.mended, tally_le mended_count mended_once V row c.loop-cell.cell, c.mend-found.ensures.counts.1.0, mended_once (cell_opening (vault_of g c.loop-cell.self) c.loop-cell.cell (g.B.Bank.row c.loop-cell.self.bank))) }
 
-pub overflow-add-counts-in-loop-cell-2 : goal.overflow-add-counts-in-loop-cell-2
-overflow-add-counts-in-loop-cell-2 g c =
-    let at = (goal.at.overflow-add-counts-in-loop-cell-2 g c).After-mend-found in
+pub overflow_add-counts-in-loop-cell-2 : goal.overflow_add-counts-in-loop-cell-2
+overflow_add-counts-in-loop-cell-2 g c =
+    let at = (goal.at.overflow_add-counts-in-loop-cell-2 g c).After-mend-found in
     let V : Vault = vault_of g c.args.self.now in
     let row : List ℕ = g.B.Bank.row c.args.self.now.bank in
     record { fits = omega (arith, few g at, c.loop-cell.invariant.3.refused, tally_le refused_count refused_once V row c.loop-cell.cell, c.mend-found.ensures.counts.1.1, refused_once (cell_opening (vault_of g c.loop-cell.self) c.loop-cell.cell (g.B.Bank.row c.loop-cell.self.bank))) }
@@ -78,8 +78,8 @@ returns g c =
     let row : List ℕ = g.B.Bank.row c.args.self.now.bank in
     let inv = c.loop-cell.invariant in
     let counts = c.loop-cell.counts in
-    let n : c.loop-cell.cell ≡ c.cell-count-cell-end.result = omega arith in
-    let all = subst (λ k. Swept V row k (g.B.Bank.row c.loop-cell.self.bank) counts.clean counts.mended counts.refused) (n ∙ c.cell-count-cell-end.ensures) inv.3 in
+    let n : c.loop-cell.cell ≡ c.cell_count-cell-end.result = omega arith in
+    let all = subst (λ k. Swept V row k (g.B.Bank.row c.loop-cell.self.bank) counts.clean counts.mended counts.refused) (n ∙ c.cell_count-cell-end.ensures) inv.3 in
     record {
       does = (counts, refl, record { long = all.long; each = all.each; rest = all.rest; clean = all.clean; mended = all.mended; refused = all.refused });
       kept = (inv.0, (inv.1, inv.2));

@@ -6,11 +6,11 @@ use Rattle.vault.proofs.CallsDone.{stored, write_no_cell, write_no_size, write_n
 use Rattle.vault.proofs.Shelf.{lent}
 use Rattle.vault.proofs.parts.Vault.write.Goals as goal
 
-pub returns-in-default : goal.returns-in-default
-returns-in-default g c =
+pub returns-in_default : goal.returns-in_default
+returns-in_default g c =
     let s = c.args.self.now in
     let V : Vault = vault (code g.F.Field.m g.F.Field.mul (g.C.ColumnSet.columns s.set) (g.C.ColumnSet.height s.set)) s.blocks s.cells in
-    record { does = write_no_cell V (g.B.Bank.row s.bank) c.args.cell c.args.word.now (salt_number c.args.salt) c.in-default.ensures.lies; kept = (refl, (refl, refl)) }
+    record { does = write_no_cell V (g.B.Bank.row s.bank) c.args.cell c.args.word.now (salt_number c.args.salt) c.in_default.ensures.lies; kept = (refl, (refl, refl)) }
 
 pub returns-then-word-self : goal.returns-then-word-self
 returns-then-word-self g c =
