@@ -42,7 +42,7 @@ fn seal_drawn<F: Field, C: ColumnSet>(
     noise: &[u8],
     frame: &mut [u8],
 ) -> Sealed
-    ensures { Seals (code m mul (columns set.now) (height set.now)) word.now noise.now frame.old result frame.new }
+    ensures { Seals (code F.m F.mul (C.columns set.now) (C.height set.now)) word.now noise.now frame.old result frame.new }
 {
     let mut source = Noise::new(noise);
     let drawn = source.draw::<F>(word.len());
@@ -83,8 +83,8 @@ fn in_numbers(verdict: Verdict, salt: u32) -> Opened
 
 // Opens a frame into the word's places, and tells the answer in numbers.
 fn open_told<F: Field, C: ColumnSet>(set: &C, frame: &[u8], word: &mut [u32]) -> Opened
-    ensures answer { result ≡ told (answer (row_opening (code m mul (columns set.now) (height set.now)) (length word.old) frame.now)) }
-    ensures word { word.new ≡ filled (row_opening (code m mul (columns set.now) (height set.now)) (length word.old) frame.now) word.old }
+    ensures answer { result ≡ told (answer (row_opening (code F.m F.mul (C.columns set.now) (C.height set.now)) (length word.old) frame.now)) }
+    ensures word { word.new ≡ filled (row_opening (code F.m F.mul (C.columns set.now) (C.height set.now)) (length word.old) frame.now) word.old }
 {
     match open::<F, C>(set, frame, word) {
         Ok((verdict, salt)) => in_numbers(verdict, salt),

@@ -6,8 +6,8 @@ use crate::ColumnSet;
 
 // The bit whose column the syndrome is, and none if no column is.
 pub fn find<C: ColumnSet>(set: &C, syndrome: u32) -> Option<u32>
-    ensures answer { MatchOption result ((t : ℕ) → HasColumn (columns set.now) t syndrome → ⊥) (λ t. HasColumn (columns set.now) t syndrome) }
-    ensures only { (t : ℕ) → HasColumn (columns set.now) t syndrome → result ≡ Some t }
+    ensures answer { MatchOption result ((t : ℕ) → HasColumn (C.columns set.now) t syndrome → ⊥) (λ t. HasColumn (C.columns set.now) t syndrome) }
+    ensures only { (t : ℕ) → HasColumn (C.columns set.now) t syndrome → result ≡ Some t }
 {
     for bit in 0..set.count() {
         if set.column(bit) == syndrome {

@@ -6,9 +6,9 @@ use crate::ColumnSet;
 
 // The column sum of x. Bits past the last column count nothing.
 pub fn column_sum<C: ColumnSet>(set: &C, x: u32) -> u32
-    ensures value { result ≡ pick (columns set.now) x }
-    ensures small { result < 2 ^ height set.now }
-    ensures linear { (y z : ℕ) → pick (columns set.now) (bit_xor y z) ≡ bit_xor (pick (columns set.now) y) (pick (columns set.now) z) }
+    ensures value { result ≡ pick (C.columns set.now) x }
+    ensures small { result < 2 ^ C.height set.now }
+    ensures linear { (y z : ℕ) → pick (C.columns set.now) (bit_xor y z) ≡ bit_xor (pick (C.columns set.now) y) (pick (C.columns set.now) z) }
 {
     let mut sum = 0;
     let mut rest = x;

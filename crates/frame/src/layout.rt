@@ -11,7 +11,7 @@ use field::Field;
 
 // Whether the field and the column set fit each other and keep the limits of a frame.
 pub(crate) fn is_fit<F: Field, C: ColumnSet>(set: &C) -> bool
-    ensures { result ≡ fits (code m mul (columns set.now) (height set.now)) }
+    ensures { result ≡ fits (code F.m F.mul (C.columns set.now) (C.height set.now)) }
 {
     let m = F::degree();
     let r = set.sum_bits();
@@ -20,8 +20,8 @@ pub(crate) fn is_fit<F: Field, C: ColumnSet>(set: &C) -> bool
 
 // The same, with its refusal. Whoever asks has all that is promised of the frames of a field and a set that fit.
 pub fn fit<F: Field, C: ColumnSet>(set: &C) -> Result<(), Unfit>
-    ensures answer { fit_number result ≡ (if fits (code m mul (columns set.now) (height set.now)) then 0 else 9) }
-    ensures promises { Promises (code m mul (columns set.now) (height set.now)) }
+    ensures answer { fit_number result ≡ (if fits (code F.m F.mul (C.columns set.now) (C.height set.now)) then 0 else 9) }
+    ensures promises { Promises (code F.m F.mul (C.columns set.now) (C.height set.now)) }
 {
     if is_fit::<F, C>(set) {
         Ok(())
@@ -32,7 +32,7 @@ pub fn fit<F: Field, C: ColumnSet>(set: &C) -> Result<(), Unfit>
 
 // The bytes of a frame of b blocks; none where there is no such frame.
 pub fn frame_len<F: Field, C: ColumnSet>(set: &C, b: usize) -> Option<usize>
-    ensures { result ≡ frame_length (code m mul (columns set.now) (height set.now)) b }
+    ensures { result ≡ frame_length (code F.m F.mul (C.columns set.now) (C.height set.now)) b }
 {
     if !is_fit::<F, C>(set) || b < 1 || b > 16 {
         return None;

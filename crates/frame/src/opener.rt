@@ -30,11 +30,11 @@ fn sum_bit(r: u32, syndrome: u32) -> Option<u32>
 
 // The first block in which a flip of the bit changes the check value by the difference.
 fn fitting_block<F: Field>(b: usize, salt: u32, bit: u32, difference: u32) -> Option<usize>
-    requires small { salt < 2 ^ m }
-    requires inside { bit < m }
-    requires width { m ≤ 24 }
+    requires small { salt < 2 ^ F.m }
+    requires inside { bit < F.m }
+    requires width { F.m ≤ 24 }
     ensures within { IfSome result (λ j. j < b) }
-    ensures value { result ≡ first (λ j. nat_eq (mul (2 ^ bit) (power mul salt (suc j))) difference) 0 b }
+    ensures value { result ≡ first (λ j. nat_eq (F.mul (2 ^ bit) (power F.mul salt (suc j))) difference) 0 b }
 {
     let a = block::<F>(salt);
     let mut change = block::<F>(1 << bit);
@@ -49,8 +49,8 @@ fn fitting_block<F: Field>(b: usize, salt: u32, bit: u32, difference: u32) -> Op
 
 // How the check value of a word and a salt differs from the check block; a salt that is not admitted is refused.
 fn difference<F: Field>(word: &[u32], salt: u32, check: u32) -> Result<u32, OpenFault>
-    requires { (i : ℕ) → slice_index word.now i < 2 ^ m }
-    ensures { result ≡ (if admitted m mul (length word.now) salt then Ok (bit_xor (check_value mul word.now salt) check) else Err OpenFault.Salt) }
+    requires { (i : ℕ) → slice_index word.now i < 2 ^ F.m }
+    ensures { result ≡ (if admitted F.m F.mul (length word.now) salt then Ok (bit_xor (check_value F.mul word.now salt) check) else Err OpenFault.Salt) }
 {
     if !admits::<F>(salt, word.len()) {
         return Err(OpenFault::Salt);
@@ -66,8 +66,8 @@ fn even<F: Field>(
     check: u32,
     syndrome: u32,
 ) -> Result<(Verdict, u32), OpenFault>
-    requires { (i : ℕ) → slice_index word.now i < 2 ^ m }
-    ensures { result ≡ answer (opening_even m mul word.now salt check syndrome) }
+    requires { (i : ℕ) → slice_index word.now i < 2 ^ F.m }
+    ensures { result ≡ answer (opening_even F.m F.mul word.now salt check syndrome) }
 {
     if syndrome != 0 {
         return Err(OpenFault::Even);
@@ -86,12 +86,12 @@ fn bit_hit<F: Field>(
     check: u32,
     bit: u32,
 ) -> Result<(Verdict, u32), OpenFault>
-    requires blocks { (i : ℕ) → slice_index word.old i < 2 ^ m }
+    requires blocks { (i : ℕ) → slice_index word.old i < 2 ^ F.m }
     requires few { length word.old ≤ 16 }
-    requires inside { bit < m }
-    requires width { m ≤ 24 }
-    ensures answer { result ≡ answer (bit_hit m mul word.old salt check bit) }
-    ensures word { word.new ≡ filled (bit_hit m mul word.old salt check bit) word.old }
+    requires inside { bit < F.m }
+    requires width { F.m ≤ 24 }
+    ensures answer { result ≡ answer (bit_hit F.m F.mul word.old salt check bit) }
+    ensures word { word.new ≡ filled (bit_hit F.m F.mul word.old salt check bit) word.old }
 {
     let change = difference::<F>(word, salt, check)?;
     if change == 0 {
@@ -125,8 +125,8 @@ fn beside_hit<F: Field>(
     check: u32,
     part: Option<Part>,
 ) -> Result<(Verdict, u32), OpenFault>
-    requires { (i : ℕ) → slice_index word.now i < 2 ^ m }
-    ensures { result ≡ answer (beside_hit m mul word.now salt check part) }
+    requires { (i : ℕ) → slice_index word.now i < 2 ^ F.m }
+    ensures { result ≡ answer (beside_hit F.m F.mul word.now salt check part) }
 {
     let Some(part) = part else {
         return Err(OpenFault::Syndrome);
@@ -146,11 +146,11 @@ fn odd<F: Field, C: ColumnSet>(
     check: u32,
     syndrome: u32,
 ) -> Result<(Verdict, u32), OpenFault>
-    requires fit { fits (code m mul (columns set.now) (height set.now)) ≡ true }
-    requires blocks { (i : ℕ) → slice_index word.old i < 2 ^ m }
+    requires fit { fits (code F.m F.mul (C.columns set.now) (C.height set.now)) ≡ true }
+    requires blocks { (i : ℕ) → slice_index word.old i < 2 ^ F.m }
     requires few { length word.old ≤ 16 }
-    ensures answer { result ≡ answer (opening_odd (code m mul (columns set.now) (height set.now)) word.old salt check syndrome) }
-    ensures word { word.new ≡ filled (opening_odd (code m mul (columns set.now) (height set.now)) word.old salt check syndrome) word.old }
+    ensures answer { result ≡ answer (opening_odd (code F.m F.mul (C.columns set.now) (C.height set.now)) word.old salt check syndrome) }
+    ensures word { word.new ≡ filled (opening_odd (code F.m F.mul (C.columns set.now) (C.height set.now)) word.old salt check syndrome) word.old }
 {
     match find(set, syndrome) {
         Some(bit) => bit_hit::<F>(word, salt ^ (1 << bit), check, bit),
@@ -164,10 +164,10 @@ fn decide<F: Field, C: ColumnSet>(
     frame: &[u8],
     word: &mut [u32],
 ) -> Result<(Verdict, u32), OpenFault>
-    requires fit { fits (code m mul (columns set.now) (height set.now)) ≡ true }
+    requires fit { fits (code F.m F.mul (C.columns set.now) (C.height set.now)) ≡ true }
     requires few { length word.old ≤ 16 }
-    ensures answer { result ≡ answer (opening (code m mul (columns set.now) (height set.now)) (length word.old) (little frame.now)) }
-    ensures word { word.new ≡ filled (opening (code m mul (columns set.now) (height set.now)) (length word.old) (little frame.now)) (places m (length word.old) (little frame.now)) }
+    ensures answer { result ≡ answer (opening (code F.m F.mul (C.columns set.now) (C.height set.now)) (length word.old) (little frame.now)) }
+    ensures word { word.new ≡ filled (opening (code F.m F.mul (C.columns set.now) (C.height set.now)) (length word.old) (little frame.now)) (places F.m (length word.old) (little frame.now)) }
 {
     let stored = read(frame, F::degree(), set.sum_bits(), word);
     let salt = fold(word) ^ stored.mask;
@@ -185,8 +185,8 @@ pub fn open<F: Field, C: ColumnSet>(
     frame: &[u8],
     row: &mut [u32],
 ) -> Result<(Verdict, u32), OpenFault>
-    ensures answer { result ≡ answer (row_opening (code m mul (columns set.now) (height set.now)) (length row.old) frame.now) }
-    ensures row { row.new ≡ filled (row_opening (code m mul (columns set.now) (height set.now)) (length row.old) frame.now) row.old }
+    ensures answer { result ≡ answer (row_opening (code F.m F.mul (C.columns set.now) (C.height set.now)) (length row.old) frame.now) }
+    ensures row { row.new ≡ filled (row_opening (code F.m F.mul (C.columns set.now) (C.height set.now)) (length row.old) frame.now) row.old }
 {
     if !is_fit::<F, C>(set) {
         return Err(OpenFault::Unfit);

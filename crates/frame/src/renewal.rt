@@ -16,9 +16,9 @@ pub fn renew<F: Field, C: ColumnSet>(
     frame: &mut [u8],
     row: &mut [u32],
 ) -> Result<(Verdict, u32), OpenFault>
-    ensures answer { result ≡ answer (row_opening (code m mul (columns set.now) (height set.now)) (length row.old) frame.old) }
-    ensures row { row.new ≡ filled (row_opening (code m mul (columns set.now) (height set.now)) (length row.old) frame.old) row.old }
-    ensures frame { frame.new ≡ renewed (code m mul (columns set.now) (height set.now)) frame.old (row_opening (code m mul (columns set.now) (height set.now)) (length row.old) frame.old) }
+    ensures answer { result ≡ answer (row_opening (code F.m F.mul (C.columns set.now) (C.height set.now)) (length row.old) frame.old) }
+    ensures row { row.new ≡ filled (row_opening (code F.m F.mul (C.columns set.now) (C.height set.now)) (length row.old) frame.old) row.old }
+    ensures frame { frame.new ≡ renewed (code F.m F.mul (C.columns set.now) (C.height set.now)) frame.old (row_opening (code F.m F.mul (C.columns set.now) (C.height set.now)) (length row.old) frame.old) }
 {
     let (verdict, salt) = open::<F, C>(set, frame, row)?;
     if let Verdict::Mended(_) = verdict {

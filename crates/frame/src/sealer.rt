@@ -85,12 +85,12 @@ fn put_parts(word: &[u32], m: u32, r: u32, mask: u32, sum: u32, check: u32, fram
 
 // Writes the frame of a word and an admitted salt.
 pub(crate) fn assemble<F: Field, C: ColumnSet>(set: &C, word: &[u32], salt: u32, frame: &mut [u8])
-    requires fit { fits (code m mul (columns set.now) (height set.now)) ≡ true }
+    requires fit { fits (code F.m F.mul (C.columns set.now) (C.height set.now)) ≡ true }
     requires few { sized (length word.now) ≡ true }
-    requires long { length frame.old ≡ frame_bytes (code m mul (columns set.now) (height set.now)) (length word.now) }
-    requires blocks { (i : ℕ) → slice_index word.now i < 2 ^ m }
-    requires salted { admitted m mul (length word.now) salt ≡ true }
-    ensures { little frame.new ≡ sealing (code m mul (columns set.now) (height set.now)) word.now salt }
+    requires long { length frame.old ≡ frame_bytes (code F.m F.mul (C.columns set.now) (C.height set.now)) (length word.now) }
+    requires blocks { (i : ℕ) → slice_index word.now i < 2 ^ F.m }
+    requires salted { admitted F.m F.mul (length word.now) salt ≡ true }
+    ensures { little frame.new ≡ sealing (code F.m F.mul (C.columns set.now) (C.height set.now)) word.now salt }
 {
     let mask = fold(word) ^ salt;
     let sum = column_sum(set, salt);
@@ -105,7 +105,7 @@ fn sealable<F: Field, C: ColumnSet>(
     salt: u32,
     bytes: usize,
 ) -> Result<(), SealFault>
-    ensures { result ≡ seal_answer (row_sealing (code m mul (columns set.now) (height set.now)) word.now salt bytes) }
+    ensures { result ≡ seal_answer (row_sealing (code F.m F.mul (C.columns set.now) (C.height set.now)) word.now salt bytes) }
 {
     if !is_fit::<F, C>(set) {
         return Err(SealFault::Unfit);
@@ -132,8 +132,8 @@ pub fn seal<F: Field, C: ColumnSet>(
     salt: Salt,
     frame: &mut [u8],
 ) -> Result<(), SealFault>
-    ensures answer { result ≡ seal_answer (row_sealing (code m mul (columns set.now) (height set.now)) word.now (salt_number salt) (length frame.old)) }
-    ensures frame { frame.new ≡ sealed_row (row_sealing (code m mul (columns set.now) (height set.now)) word.now (salt_number salt) (length frame.old)) frame.old }
+    ensures answer { result ≡ seal_answer (row_sealing (code F.m F.mul (C.columns set.now) (C.height set.now)) word.now (salt_number salt) (length frame.old)) }
+    ensures frame { frame.new ≡ sealed_row (row_sealing (code F.m F.mul (C.columns set.now) (C.height set.now)) word.now (salt_number salt) (length frame.old)) frame.old }
 {
     let number = salt.value();
     salt.discard();

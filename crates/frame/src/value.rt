@@ -17,8 +17,8 @@ pub(crate) fn fold(word: &[u32]) -> u32
 
 // The element of a block, which is below 2^m.
 pub(crate) fn block<F: Field>(y: u32) -> F::Elem
-    requires { y < 2 ^ m }
-    ensures { number result ≡ y }
+    requires { y < 2 ^ F.m }
+    ensures { F.number result ≡ y }
 {
     match F::element(y) {
         Some(x) => x,
@@ -28,8 +28,8 @@ pub(crate) fn block<F: Field>(y: u32) -> F::Elem
 
 // The check value, by Horner's rule from the last block to the first.
 pub(crate) fn check_value<F: Field>(word: &[u32], a: F::Elem) -> F::Elem
-    requires { (i : ℕ) → slice_index word.now i < 2 ^ m }
-    ensures { number result ≡ check_value mul word.now (number a) }
+    requires { (i : ℕ) → slice_index word.now i < 2 ^ F.m }
+    ensures { F.number result ≡ check_value F.mul word.now (F.number a) }
 {
     let square = F::multiply(a, a);
     let mut total = if word.len() % 2 == 1 {

@@ -7,7 +7,7 @@ use field::Field;
 // Whether `a` is admitted as a salt for `b` blocks. Its first b powers are nonzero and all different
 // just when a is nonzero and none of the powers before the b-th is 1.
 pub fn admits<F: Field>(a: u32, b: usize) -> bool
-    ensures { result ≡ admitted F.Field.m F.Field.mul b a }
+    ensures { result ≡ admitted F.m F.mul b a }
 {
     let Some(x) = F::element(a) else {
         return false;

@@ -12,7 +12,7 @@ impl Noise<'_> {
     // The place is behind its group after; it stays where there is none.
     pub fn draw<F: Field>(&mut self, b: usize) -> Result<Salt, DrawFault>
         ensures kept { self.new.bytes.now ≡ self.old.bytes.now }
-        ensures drawn { Draws F.Field.m F.Field.mul b self.old.bytes.now self.old.place result self.new.place }
+        ensures drawn { Draws F.m F.mul b self.old.bytes.now self.old.place result self.new.place }
     {
         let width = F::degree();
         if width < 3 || width > 24 {

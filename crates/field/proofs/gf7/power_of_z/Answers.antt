@@ -17,7 +17,7 @@ value i =
 pub invariant_of-result : goal.invariant_of-result
 invariant_of-result c =
     let i = c.args.i in
-    (rw (value i) (power_lt 7 (product 6 137) laws7 2 i (lit< tt)), tt)
+    record { small = rw (value i) (power_lt 7 (product 6 137) laws7 2 i (lit< tt)) }
 
 pub returns : goal.returns
 returns c = value c.args.i

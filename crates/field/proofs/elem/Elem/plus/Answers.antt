@@ -5,4 +5,4 @@ pub invariant_of-result : goal.invariant_of-result
 invariant_of-result g c =
     let x = c.args.self in
     let y = c.args.other in
-    (xor_lt g.row.W x.value y.value x.small y.small, tt)
+    record { small = xor_lt g.row.W x.value y.value x.small y.small }

@@ -14,7 +14,7 @@ pub overflow_cast-result : goal.overflow_cast-result
 overflow_cast-result c = let h = small c in omega arith
 
 pub invariant_of-result : goal.invariant_of-result
-invariant_of-result c = (small c, tt)
+invariant_of-result c = record { small = small c }
 
 pub returns : goal.returns
 returns c = value c.args.x.value c.args.y.value c.args.x.small c.shifted_sum-long.ensures c.folded.ensures c.folded-2.ensures
