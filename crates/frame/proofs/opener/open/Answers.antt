@@ -16,7 +16,7 @@ whole g c =
     let K : Code = code f.m f.mul (g.C.ColumnSet.columns c.args.set.now) (g.C.ColumnSet.height c.args.set.now) in
     let b = length c.args.row.now in
     let known = length_parts K b c.in-Some.bytes c.in-Some.ensures in
-    row_opens K b c.args.frame.now known.0.0 known.0.1 (c.if-frame_bytes.false ∙ known.1)
+    row_opens K b c.args.frame.now known.0.0 known.0.1 (c.if-frame-bytes.false ∙ known.1)
 
 -- the part of the room that is lent has b places
 room : (b : ℕ) → b ≤ 16 → length {A = ℕ} (take (b - 0) (replicate 16 0)) ≡ b
@@ -38,7 +38,7 @@ decided g c =
 pub returns-in_err-opened : goal.returns-in_err-opened
 returns-in_err-opened g c =
     let is = decided g (goal.at.returns-in_err-opened g c).After-decide in
-    let p = err_from_is_err_and c.from-residual.result c.from-residual.ensures.1 in
+    let p = err_from_is_err_and c.from_residual.result c.from_residual.ensures.1 in
     let told = sym c.in_err-opened.was ∙ is in
     record { answer = p.1 ∙ ap Err p.2 ∙ told; row = sym (filled_err _ c.in_err-opened.field-0.0 c.args.row.now told) }
 

@@ -14,7 +14,7 @@ pub returns-in_err-verdict : goal.returns-in_err-verdict
 returns-in_err-verdict g c =
     let f = g.F.Field in
     let K : Code = code f.m f.mul (g.C.ColumnSet.columns c.args.set.now) (g.C.ColumnSet.height c.args.set.now) in
-    let p = err_from_is_err_and c.from-residual.result c.from-residual.ensures.1 in
+    let p = err_from_is_err_and c.from_residual.result c.from_residual.ensures.1 in
     let told = c.in_err-verdict.ensures in
     record { answer = p.1 ∙ ap Err p.2 ∙ told.answer; row = told.row; frame = sym (refused_stays K _ _ c.args.frame.now told.answer) }
 

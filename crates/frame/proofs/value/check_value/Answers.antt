@@ -4,7 +4,7 @@ use lib.Seq.{drop-length}
 use Rattle.std.proofs.lemmas.List.{drop_more}
 use Rattle.field.specs.Powers.{power}
 use Rattle.field.proofs.Powers.{mul-one}
-use Rattle.frame.specs.Checks.{terms, weight}
+use Rattle.frame.specs.Checks.{check_value, terms, weight}
 use Rattle.frame.proofs.Values.{horner, horner_terms}
 use Rattle.frame.proofs.value.check_value.Given as given
 use Rattle.frame.proofs.value.check_value.Goals as goal
@@ -28,7 +28,7 @@ loop-i-preserved g c =
     ∙ sym (ap (λ l. horner f.mul (f.number c.args.a) l (f.number c.if-word-eq1.total)) rest)
 
 -- the start is a power of the salt, so Horner's rule gives the check value
-from_start : (g : given.Over) (c : goal.After-loop-i g) (k : ℕ) → g.F.Field.number c.if-word-eq1.total ≡ power g.F.Field.mul (g.F.Field.number c.args.a) k → k + length c.args.word.now ≡ weight (length c.args.word.now) + 1 → goal.the-asks-returns g.row.F g.row.F-Elem g.F.laws g.F.Elem.laws g.F.Elem.copy g.F.Field g.F.Field-dict g.world g.met.F.Field c
+from_start : (g : given.Over) (c : goal.After-loop-i g) (k : ℕ) → g.F.Field.number c.if-word-eq1.total ≡ power g.F.Field.mul (g.F.Field.number c.args.a) k → k + length c.args.word.now ≡ weight (length c.args.word.now) + 1 → g.F.Field.number c.loop-i.total ≡ check_value g.F.Field.mul c.args.word.now (g.F.Field.number c.args.a)
 from_start g c k start exponent =
     let f = g.F.Field in
     let a = f.number c.args.a in
