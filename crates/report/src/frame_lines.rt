@@ -19,7 +19,7 @@ fn open_line<F: Field, C: ColumnSet>(
     line: &[u8],
 ) -> Result<String, AllocError>
     requires { b ≤ 16 }
-    ensures { IfOk result (λ s. string_bytes s ≡ outcome_text (line_outcome (code m mul (columns set.now) (height set.now)) b (decoded line.now))) }
+    ensures { IfOk result (λ s. string_bytes s ≡ outcome_text (line_outcome (code F.m F.mul (C.columns set.now) (C.height set.now)) b (decoded line.now))) }
 {
     let Some(frame) = decode(heap, line)? else {
         return refuse(heap, OpenFault::Size);
@@ -41,7 +41,7 @@ pub(crate) fn report_frames<F: Field, C: ColumnSet>(
 ) -> Result<String, AllocError>
     requires blocks { b ≤ 16 }
     requires short { length text.now ≤ 65536 }
-    ensures { IfOk result (λ s. string_bytes s ≡ frames_text (code m mul (columns set.now) (height set.now)) b 1 (lines text.now)) }
+    ensures { IfOk result (λ s. string_bytes s ≡ frames_text (code F.m F.mul (C.columns set.now) (C.height set.now)) b 1 (lines text.now)) }
 {
     let mut report = String::new(heap);
     let mut number = 1u32;

@@ -7,8 +7,8 @@ use bank::Bank;
 
 // The byte at a place inside the bank.
 fn byte_at<B: Bank>(bank: &B, place: usize) -> u8
-    requires { place < length (B.row bank.now) }
-    ensures { result ≡ slice_index (B.row bank.now) place }
+    requires { place < length (B.Bank.row bank.now) }
+    ensures { result ≡ slice_index (B.Bank.row bank.now) place }
 {
     match bank.get(place) {
         Ok(byte) => byte,
@@ -18,8 +18,8 @@ fn byte_at<B: Bank>(bank: &B, place: usize) -> u8
 
 // Puts a byte at a place inside the bank.
 fn put_byte<B: Bank>(bank: &mut B, place: usize, byte: u8)
-    requires { place < length (B.row bank.old) }
-    ensures { B.row bank.new ≡ slice_set (B.row bank.old) place byte }
+    requires { place < length (B.Bank.row bank.old) }
+    ensures { B.Bank.row bank.new ≡ slice_set (B.Bank.row bank.old) place byte }
 {
     match bank.put(place, byte) {
         Ok(()) => {}
@@ -29,8 +29,8 @@ fn put_byte<B: Bank>(bank: &mut B, place: usize, byte: u8)
 
 // The bytes of the bank from `start` on, as many as `bytes` holds.
 pub(crate) fn fetch<B: Bank>(bank: &B, start: usize, bytes: &mut [u8])
-    requires { start + length bytes.old ≤ length (B.row bank.now) }
-    ensures { bytes.new ≡ take (length bytes.old) (drop start (B.row bank.now)) }
+    requires { start + length bytes.old ≤ length (B.Bank.row bank.now) }
+    ensures { bytes.new ≡ take (length bytes.old) (drop start (B.Bank.row bank.now)) }
 {
     for (i, byte) in bytes.iter_mut().enumerate() {
         *byte = byte_at(bank, start + i);
@@ -39,8 +39,8 @@ pub(crate) fn fetch<B: Bank>(bank: &B, start: usize, bytes: &mut [u8])
 
 // Puts `bytes` into the bank from `start` on.
 pub(crate) fn store<B: Bank>(bank: &mut B, start: usize, bytes: &[u8])
-    requires { start + length bytes.now ≤ length (B.row bank.old) }
-    ensures { B.row bank.new ≡ paste (B.row bank.old) start bytes.now (length bytes.now) }
+    requires { start + length bytes.now ≤ length (B.Bank.row bank.old) }
+    ensures { B.Bank.row bank.new ≡ paste (B.Bank.row bank.old) start bytes.now (length bytes.now) }
 {
     for (i, byte) in bytes.iter().enumerate() {
         put_byte(bank, start + i, *byte);

@@ -17,7 +17,7 @@ use salt::Salt;
 impl<F: Field, C: ColumnSet, B: Bank> Vault<F, C, B> {
     // Seals a word and a salt into a cell. A refusal leaves the bank; the salt is used up either way.
     pub fn write(&mut self, cell: usize, word: &[u32], salt: Salt) -> Result<(), WriteFault>
-        ensures does { let V = vault (code F.m F.mul (C.columns self.old.set) (C.height self.old.set)) self.old.blocks self.old.cells in Does V (B.row self.old.bank) (write_call cell word.now (salt_number salt)) (wrote result) (B.row self.new.bank) }
+        ensures does { let V = vault (code F.m F.mul (C.columns self.old.set) (C.height self.old.set)) self.old.blocks self.old.cells in Does V (B.Bank.row self.old.bank) (write_call cell word.now (salt_number salt)) (wrote result) (B.Bank.row self.new.bank) }
         ensures kept { (self.new.set ≡ self.old.set) × ((self.new.blocks ≡ self.old.blocks) × (self.new.cells ≡ self.old.cells)) }
     {
         let Some(span) = self.locate(cell) else {
@@ -42,7 +42,7 @@ impl<F: Field, C: ColumnSet, B: Bank> Vault<F, C, B> {
 
     // Opens a cell into a receiving row. A refusal leaves the row as it was.
     pub fn read(&self, cell: usize, places: &mut [u32]) -> Result<Verdict, ReadFault>
-        ensures does { let V = vault (code F.m F.mul (C.columns self.now.set) (C.height self.now.set)) self.now.blocks self.now.cells in Does V (B.row self.now.bank) (read_call cell places.old) (got result places.new) (B.row self.now.bank) }
+        ensures does { let V = vault (code F.m F.mul (C.columns self.now.set) (C.height self.now.set)) self.now.blocks self.now.cells in Does V (B.Bank.row self.now.bank) (read_call cell places.old) (got result places.new) (B.Bank.row self.now.bank) }
     {
         let Some(span) = self.locate(cell) else {
             return Err(ReadFault::Cell);
@@ -62,7 +62,7 @@ impl<F: Field, C: ColumnSet, B: Bank> Vault<F, C, B> {
 
     // Exclusive-ors a pattern onto a cell.
     pub fn inject(&mut self, cell: usize, pattern: &[u8]) -> Result<(), InjectFault>
-        ensures does { let V = vault (code F.m F.mul (C.columns self.old.set) (C.height self.old.set)) self.old.blocks self.old.cells in Does V (B.row self.old.bank) (inject_call cell pattern.now) (struck result) (B.row self.new.bank) }
+        ensures does { let V = vault (code F.m F.mul (C.columns self.old.set) (C.height self.old.set)) self.old.blocks self.old.cells in Does V (B.Bank.row self.old.bank) (inject_call cell pattern.now) (struck result) (B.Bank.row self.new.bank) }
         ensures kept { (self.new.set ≡ self.old.set) × ((self.new.blocks ≡ self.old.blocks) × (self.new.cells ≡ self.old.cells)) }
     {
         let Some(span) = self.locate(cell) else {

@@ -61,7 +61,7 @@ impl<F: Field, C: ColumnSet, B: Bank> Vault<F, C, B> {
 
     // The bytes of a cell, where the parts fit each other and the bank.
     fn cell_len(&self) -> Option<usize>
-        ensures { let V = vault (code F.m F.mul (C.columns self.now.set) (C.height self.now.set)) self.now.blocks self.now.cells in let fits = vault_fits V (length (B.row self.now.bank)) in MatchOption result (fits ≡ false) (λ f. (fits ≡ true) × (f ≡ cell_bytes V)) }
+        ensures { let V = vault (code F.m F.mul (C.columns self.now.set) (C.height self.now.set)) self.now.blocks self.now.cells in let fits = vault_fits V (length (B.Bank.row self.now.bank)) in MatchOption result (fits ≡ false) (λ f. (fits ≡ true) × (f ≡ cell_bytes V)) }
     {
         let bytes = frame_len::<F, C>(&self.set, self.blocks)?;
         if self.cells < 1 || self.cells > 1024 || self.cells * bytes > self.bank.len() {
@@ -72,7 +72,7 @@ impl<F: Field, C: ColumnSet, B: Bank> Vault<F, C, B> {
 
     // Whether the parts fit each other and the bank, and keep their limits.
     pub fn fit(&self) -> Result<(), Unfit>
-        ensures { let V = vault (code F.m F.mul (C.columns self.now.set) (C.height self.now.set)) self.now.blocks self.now.cells in fit_number result ≡ (if vault_fits V (length (B.row self.now.bank)) then 0 else 9) }
+        ensures { let V = vault (code F.m F.mul (C.columns self.now.set) (C.height self.now.set)) self.now.blocks self.now.cells in fit_number result ≡ (if vault_fits V (length (B.Bank.row self.now.bank)) then 0 else 9) }
     {
         match self.cell_len() {
             Some(_) => Ok(()),
@@ -82,7 +82,7 @@ impl<F: Field, C: ColumnSet, B: Bank> Vault<F, C, B> {
 
     // How many cells there are: none where the parts do not fit.
     pub(crate) fn cell_count(&self) -> usize
-        ensures { let V = vault (code F.m F.mul (C.columns self.now.set) (C.height self.now.set)) self.now.blocks self.now.cells in result ≡ count V (B.row self.now.bank) }
+        ensures { let V = vault (code F.m F.mul (C.columns self.now.set) (C.height self.now.set)) self.now.blocks self.now.cells in result ≡ count V (B.Bank.row self.now.bank) }
     {
         match self.cell_len() {
             Some(_) => self.cells,
@@ -92,8 +92,8 @@ impl<F: Field, C: ColumnSet, B: Bank> Vault<F, C, B> {
 
     // Where a cell lies, if it is below the count.
     pub(crate) fn locate(&self, cell: usize) -> Option<Span>
-        ensures lies { let V = vault (code F.m F.mul (C.columns self.now.set) (C.height self.now.set)) self.now.blocks self.now.cells in MatchOption result (count V (B.row self.now.bank) ≤ cell) (λ s. (cell < count V (B.row self.now.bank)) × (s.start ≡ cell * cell_bytes V) × (s.bytes ≡ cell_bytes V)) }
-        ensures inside { IfSome result (λ s. (s.start + s.bytes ≤ length (B.row self.now.bank)) × (s.bytes ≤ 56)) }
+        ensures lies { let V = vault (code F.m F.mul (C.columns self.now.set) (C.height self.now.set)) self.now.blocks self.now.cells in MatchOption result (count V (B.Bank.row self.now.bank) ≤ cell) (λ s. (cell < count V (B.Bank.row self.now.bank)) × (s.start ≡ cell * cell_bytes V) × (s.bytes ≡ cell_bytes V)) }
+        ensures inside { IfSome result (λ s. (s.start + s.bytes ≤ length (B.Bank.row self.now.bank)) × (s.bytes ≤ 56)) }
     {
         let bytes = self.cell_len()?;
         if cell >= self.cells {

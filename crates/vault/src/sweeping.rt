@@ -15,9 +15,9 @@ use frame::{Verdict, renew};
 impl<F: Field, C: ColumnSet, B: Bank> Vault<F, C, B> {
     // Sweeps one cell, and counts it.
     fn mend(&mut self, cell: usize) -> Counts
-        requires { let V = vault (code F.m F.mul (C.columns self.old.set) (C.height self.old.set)) self.old.blocks self.old.cells in cell < count V (B.row self.old.bank) }
-        ensures swept { let V = vault (code F.m F.mul (C.columns self.old.set) (C.height self.old.set)) self.old.blocks self.old.cells in B.row self.new.bank ≡ with_cell V cell (swept_cell V cell (B.row self.old.bank)) (B.row self.old.bank) }
-        ensures counts { let V = vault (code F.m F.mul (C.columns self.old.set) (C.height self.old.set)) self.old.blocks self.old.cells in let o = cell_opening V cell (B.row self.old.bank) in (result.clean ≡ clean_count o) × ((result.mended ≡ mended_count o) × (result.refused ≡ refused_count o)) }
+        requires { let V = vault (code F.m F.mul (C.columns self.old.set) (C.height self.old.set)) self.old.blocks self.old.cells in cell < count V (B.Bank.row self.old.bank) }
+        ensures swept { let V = vault (code F.m F.mul (C.columns self.old.set) (C.height self.old.set)) self.old.blocks self.old.cells in B.Bank.row self.new.bank ≡ with_cell V cell (swept_cell V cell (B.Bank.row self.old.bank)) (B.Bank.row self.old.bank) }
+        ensures counts { let V = vault (code F.m F.mul (C.columns self.old.set) (C.height self.old.set)) self.old.blocks self.old.cells in let o = cell_opening V cell (B.Bank.row self.old.bank) in (result.clean ≡ clean_count o) × ((result.mended ≡ mended_count o) × (result.refused ≡ refused_count o)) }
         ensures kept { (self.new.set ≡ self.old.set) × ((self.new.blocks ≡ self.old.blocks) × (self.new.cells ≡ self.old.cells)) }
     {
         let span = match self.locate(cell) {
@@ -57,7 +57,7 @@ impl<F: Field, C: ColumnSet, B: Bank> Vault<F, C, B> {
 
     // Goes through the cells in order, seals each mended frame anew, and counts the cells by what they were.
     pub fn sweep(&mut self) -> Counts
-        ensures does { let V = vault (code F.m F.mul (C.columns self.old.set) (C.height self.old.set)) self.old.blocks self.old.cells in Does V (B.row self.old.bank) sweep_call (counted result) (B.row self.new.bank) }
+        ensures does { let V = vault (code F.m F.mul (C.columns self.old.set) (C.height self.old.set)) self.old.blocks self.old.cells in Does V (B.Bank.row self.old.bank) sweep_call (counted result) (B.Bank.row self.new.bank) }
         ensures kept { (self.new.set ≡ self.old.set) × ((self.new.blocks ≡ self.old.blocks) × (self.new.cells ≡ self.old.cells)) }
     {
         let mut counts = Counts {

@@ -12,7 +12,7 @@ use Rattle.vault.proofs.parts.Vault.sweep.Goals as goal
 use Rattle.vault.proofs.parts.Vault.sweep.Goals.{After-mend-found}
 
 -- the vault stays the same
-same : (g : given.Over) (s t : Made g.row.F.Denot g.row.C.Denot g.row.B.Denot g.F.Elem.Denot) → s.set ≡ t.set → s.blocks ≡ t.blocks → s.cells ≡ t.cells → vault_of g s ≡ vault_of g t
+same : (g : given.Over) (s t : Made g.row.F.Denot g.row.C.Denot g.row.B.Denot g.row.F-Elem.Denot) → s.set ≡ t.set → s.blocks ≡ t.blocks → s.cells ≡ t.cells → vault_of g s ≡ vault_of g t
 same g s t e f h =
     ap (λ x. vault (code g.F.Field.m g.F.Field.mul (g.C.ColumnSet.columns x) (g.C.ColumnSet.height x)) s.blocks s.cells) e
     ∙ ap₂ (vault (code g.F.Field.m g.F.Field.mul (g.C.ColumnSet.columns t.set) (g.C.ColumnSet.height t.set))) f h

@@ -6,7 +6,7 @@ use Rattle.vault.proofs.Tally.{Swept}
 use Rattle.vault.proofs.parts.Vault.sweep.Given as goal
 
 -- the numbers of the vault
-abbrev pub vault_of : (g : goal.Over) → Made g.row.F.Denot g.row.C.Denot g.row.B.Denot g.F.Elem.Denot → Vault
+abbrev pub vault_of : (g : goal.Over) → Made g.row.F.Denot g.row.C.Denot g.row.B.Denot g.row.F-Elem.Denot → Vault
 vault_of g s = vault (code g.F.Field.m g.F.Field.mul (g.C.ColumnSet.columns s.set) (g.C.ColumnSet.height s.set)) s.blocks s.cells
 
 abbrev pub invariant-loop-cell : goal.invariant-loop-cell
