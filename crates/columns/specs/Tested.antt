@@ -1,12 +1,12 @@
--- A test over a list of columns, and that a list which passes it keeps the laws; both sets pass.
--- The proofs stand here since an implementation can name its laws only from this folder; a reader needs their types alone.
+-- A test over a list of columns, and what a list that passes it keeps; both sets pass.
+-- The proofs stand here since an implementation can name what its laws rest on only from this folder; a reader needs their
+-- types alone. That such a list keeps the laws of a column set is in proofs/Tested.antt.
 -- Assumes nothing.
 use Rattle.std.specs.Prelude.{◌≡◌, ℕ, zero, suc, ◌^◌, ◌<◌, ◌≤◌, Bool, true, false, not, ◌&&◌, List, [], ◌∷◌, length, ◌==◌, ◌≢◌, nat_lt, slice_index, refl}
 use Rattle.std.proofs.Common.{sym, ap, subst, ⊎_elim, le_of_suc-le-suc, not-suc-le-zero, arith, pow_mono}
 use Rattle.std.specs.List.{AllByRecursion as All}
 use Rattle.std.proofs.ByRecursion.{All-get_or}
 use Rattle.std.proofs.lemmas.Bool.{and_parts, not-true, both_ways, ltb-true, eqb-false, eq-eqb, or_left, or_right, cases_order, cases_lt}
-use Rattle.columns.specs.Columns.{Laws}
 use Rattle.columns.specs.Rule.{is_power, non_powers}
 use Rattle.columns.specs.Table.{listed}
 
@@ -25,7 +25,7 @@ lawful h [] = true
 lawful h (c ∷ cs) = plain h c && (absent c cs && lawful h cs)
 
 -- what the test `plain` says
-abbrev Plain : ℕ → ℕ → Type 0
+abbrev pub Plain : ℕ → ℕ → Type 0
 Plain h c = (c < 2 ^ h) × (c ≢ 0) × ((k : ℕ) → c ≢ 2 ^ k)
 
 -- the test finds each power of two
@@ -67,28 +67,20 @@ all_plain : (h : ℕ) (cs : List ℕ) → lawful h cs ≡ true → All (Plain h)
 all_plain h [] test = tt
 all_plain h (c ∷ cs) test = let p = parts h c cs test in (plain_holds h c p.0, all_plain h cs p.2)
 
-differ : (h : ℕ) (cs : List ℕ) → lawful h cs ≡ true → (s t : ℕ) → s < length cs → t < length cs → slice_index cs s ≡ slice_index cs t → s ≡ t
+pub differ : (h : ℕ) (cs : List ℕ) → lawful h cs ≡ true → (s t : ℕ) → s < length cs → t < length cs → slice_index cs s ≡ slice_index cs t → s ≡ t
 differ h [] test s t hs ht e = absurd (not-suc-le-zero hs)
 differ h (c ∷ cs) test zero zero hs ht e = refl
 differ h (c ∷ cs) test zero (suc t) hs ht e = absurd (absent_holds c cs (parts h c cs test).1 t (le_of_suc-le-suc ht) e)
 differ h (c ∷ cs) test (suc s) zero hs ht e = absurd (absent_holds c cs (parts h c cs test).1 s (le_of_suc-le-suc hs) (sym e))
 differ h (c ∷ cs) test (suc s) (suc t) hs ht e = ap suc (differ h cs (parts h c cs test).2 s t (le_of_suc-le-suc hs) (le_of_suc-le-suc ht) e)
 
--- a list that passes the test keeps the laws
-pub laws_by_test : (h : ℕ) (cs : List ℕ) → lawful h cs ≡ true → Laws cs h
-laws_by_test h cs test =
-    let sound : (t : ℕ) → t < length cs → Plain h (slice_index cs t) = λ t lt. All-get_or (Plain h) cs t 0 lt (all_plain h cs test) in
-    record {
-      small = λ t lt. (sound t lt).0;
-      nonzero = λ t lt. (sound t lt).1;
-      no_power = λ t k lt. (sound t lt).2 k;
-      differ = differ h cs test;
-    }
+pub sound : (h : ℕ) (cs : List ℕ) → lawful h cs ≡ true → (t : ℕ) → t < length cs → Plain h (slice_index cs t)
+sound h cs test t lt = All-get_or (Plain h) cs t 0 lt (all_plain h cs test)
 
-pub table_laws : Laws listed 4
+pub table_passes : lawful 4 listed ≡ true
 unfolding absent plain lawful
-table_laws = laws_by_test 4 listed refl
+table_passes = refl
 
-pub rule_laws : Laws (non_powers 17) 5
+pub rule_passes : lawful 5 (non_powers 17) ≡ true
 unfolding absent plain lawful non_powers
-rule_laws = laws_by_test 5 (non_powers 17) refl
+rule_passes = refl

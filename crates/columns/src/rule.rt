@@ -1,7 +1,8 @@
 // The rule set: 17 data bits, 5 bits to a column. Bit t has the number at place t among the numbers from 3 upward that
 // are no powers of two.
 ghost use Rattle.columns.specs.Rule.{non_powers};
-ghost use Rattle.columns.specs.Tested.{rule_laws};
+ghost use Rattle.std.proofs.Common.{rules};
+ghost use Rattle.columns.specs.Tested.{sound, differ, rule_passes};
 
 use crate::ColumnSet;
 
@@ -13,7 +14,7 @@ impl ColumnSet for RuleSet {
 
     ghost height = { λ _. 5 };
 
-    ghost laws = { λ _. rule_laws };
+    ghost laws = { λ _. record { small = λ t lt. (sound 5 (non_powers 17) rule_passes t lt).0; nonzero = λ t lt. (sound 5 (non_powers 17) rule_passes t lt).1; no_power = λ t k lt. (sound 5 (non_powers 17) rule_passes t lt).2 k; differ = Prim.search (rules, differ 5 (non_powers 17) rule_passes) } };
 
     fn count(&self) -> u32 {
         17

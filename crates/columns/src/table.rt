@@ -1,6 +1,7 @@
 // The table set: a column for each of 7 data bits, 4 bits to a column.
 ghost use Rattle.columns.specs.Table.{listed};
-ghost use Rattle.columns.specs.Tested.{table_laws};
+ghost use Rattle.std.proofs.Common.{rules};
+ghost use Rattle.columns.specs.Tested.{sound, differ, table_passes};
 
 use crate::ColumnSet;
 
@@ -14,7 +15,7 @@ impl ColumnSet for TableSet {
 
     ghost height = { λ _. 4 };
 
-    ghost laws = { λ _. table_laws };
+    ghost laws = { λ _. record { small = λ t lt. (sound 4 listed table_passes t lt).0; nonzero = λ t lt. (sound 4 listed table_passes t lt).1; no_power = λ t k lt. (sound 4 listed table_passes t lt).2 k; differ = Prim.search (rules, differ 4 listed table_passes) } };
 
     fn count(&self) -> u32 {
         7
