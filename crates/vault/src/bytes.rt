@@ -19,7 +19,8 @@ fn byte_at<B: Bank>(bank: &B, place: usize) -> u8
 // Puts a byte at a place inside the bank.
 fn put_byte<B: Bank>(bank: &mut B, place: usize, byte: u8)
     requires { place < length (B.Bank.row bank.old) }
-    ensures { B.Bank.row bank.new ≡ slice_set (B.Bank.row bank.old) place byte }
+    ensures changed { B.Bank.row bank.new ≡ slice_set (B.Bank.row bank.old) place byte }
+    ensures seams { B.seams bank.new ≡ B.seams bank.old }
 {
     match bank.put(place, byte) {
         Ok(()) => {}
@@ -40,7 +41,8 @@ pub(crate) fn fetch<B: Bank>(bank: &B, start: usize, bytes: &mut [u8])
 // Puts `bytes` into the bank from `start` on.
 pub(crate) fn store<B: Bank>(bank: &mut B, start: usize, bytes: &[u8])
     requires { start + length bytes.now ≤ length (B.Bank.row bank.old) }
-    ensures { B.Bank.row bank.new ≡ paste (B.Bank.row bank.old) start bytes.now (length bytes.now) }
+    ensures changed { B.Bank.row bank.new ≡ paste (B.Bank.row bank.old) start bytes.now (length bytes.now) }
+    ensures seams { B.seams bank.new ≡ B.seams bank.old }
 {
     for (i, byte) in bytes.iter().enumerate() {
         put_byte(bank, start + i, *byte);

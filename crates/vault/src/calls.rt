@@ -1,5 +1,5 @@
 // The calls on one cell: write, read and inject.
-ghost use Rattle.std.specs.Prelude.{◌≡◌};
+ghost use Rattle.std.specs.Prelude.{◌≡◌, OnErr};
 ghost use Rattle.frame.specs.Code.{code};
 ghost use Rattle.salt.specs.Token.{salt_number};
 ghost use Rattle.vault.specs.Cells.{vault};
@@ -15,10 +15,12 @@ use frame::{Verdict, open, seal};
 use salt::Salt;
 
 impl<F: Field, C: ColumnSet, B: Bank> Vault<F, C, B> {
-    // Seals a word and a salt into a cell. A refusal leaves the bank; the salt is used up either way.
+    // Seals a word and a salt into a cell. A refusal leaves the vault as it was; the salt is used up either way.
     pub fn write(&mut self, cell: usize, word: &[u32], salt: Salt) -> Result<(), WriteFault>
         ensures does { let V = vault (code F.m F.mul (C.columns self.old.set) (C.height self.old.set)) self.old.blocks self.old.cells in Does V (B.Bank.row self.old.bank) (write_call cell word.now (salt_number salt)) (wrote result) (B.Bank.row self.new.bank) }
         ensures kept { (self.new.set ≡ self.old.set) × ((self.new.blocks ≡ self.old.blocks) × (self.new.cells ≡ self.old.cells)) }
+        ensures seams { B.seams self.new.bank ≡ B.seams self.old.bank }
+        ensures refused { OnErr result (self.new ≡ self.old) }
     {
         let Some(span) = self.locate(cell) else {
             salt.discard();
@@ -60,10 +62,12 @@ impl<F: Field, C: ColumnSet, B: Bank> Vault<F, C, B> {
         }
     }
 
-    // Exclusive-ors a pattern onto a cell.
+    // Exclusive-ors a pattern onto a cell. A refusal leaves the vault as it was.
     pub fn inject(&mut self, cell: usize, pattern: &[u8]) -> Result<(), InjectFault>
         ensures does { let V = vault (code F.m F.mul (C.columns self.old.set) (C.height self.old.set)) self.old.blocks self.old.cells in Does V (B.Bank.row self.old.bank) (inject_call cell pattern.now) (struck result) (B.Bank.row self.new.bank) }
         ensures kept { (self.new.set ≡ self.old.set) × ((self.new.blocks ≡ self.old.blocks) × (self.new.cells ≡ self.old.cells)) }
+        ensures seams { B.seams self.new.bank ≡ B.seams self.old.bank }
+        ensures refused { OnErr result (self.new ≡ self.old) }
     {
         let Some(span) = self.locate(cell) else {
             return Err(InjectFault::Cell);

@@ -13,12 +13,14 @@ use field::Field;
 use frame::{Verdict, renew};
 
 impl<F: Field, C: ColumnSet, B: Bank> Vault<F, C, B> {
-    // Sweeps one cell, and counts it.
+    // Sweeps one cell, and counts it. A cell that is not mended is not written.
     fn mend(&mut self, cell: usize) -> Counts
         requires { let V = vault (code F.m F.mul (C.columns self.old.set) (C.height self.old.set)) self.old.blocks self.old.cells in cell < count V (B.Bank.row self.old.bank) }
         ensures swept { let V = vault (code F.m F.mul (C.columns self.old.set) (C.height self.old.set)) self.old.blocks self.old.cells in B.Bank.row self.new.bank ≡ with_cell V cell (swept_cell V cell (B.Bank.row self.old.bank)) (B.Bank.row self.old.bank) }
         ensures counts { let V = vault (code F.m F.mul (C.columns self.old.set) (C.height self.old.set)) self.old.blocks self.old.cells in let o = cell_opening V cell (B.Bank.row self.old.bank) in (result.clean ≡ clean_count o) × ((result.mended ≡ mended_count o) × (result.refused ≡ refused_count o)) }
         ensures kept { (self.new.set ≡ self.old.set) × ((self.new.blocks ≡ self.old.blocks) × (self.new.cells ≡ self.old.cells)) }
+        ensures seams { B.seams self.new.bank ≡ B.seams self.old.bank }
+        ensures still { result.mended ≡ 0 → self.new ≡ self.old }
     {
         let span = match self.locate(cell) {
             Some(span) => span,
@@ -56,9 +58,12 @@ impl<F: Field, C: ColumnSet, B: Bank> Vault<F, C, B> {
     }
 
     // Goes through the cells in order, seals each mended frame anew, and counts the cells by what they were.
+    // A sweep that mends none leaves the vault as it was.
     pub fn sweep(&mut self) -> Counts
         ensures does { let V = vault (code F.m F.mul (C.columns self.old.set) (C.height self.old.set)) self.old.blocks self.old.cells in Does V (B.Bank.row self.old.bank) sweep_call (counted result) (B.Bank.row self.new.bank) }
         ensures kept { (self.new.set ≡ self.old.set) × ((self.new.blocks ≡ self.old.blocks) × (self.new.cells ≡ self.old.cells)) }
+        ensures seams { B.seams self.new.bank ≡ B.seams self.old.bank }
+        ensures still { result.mended ≡ 0 → self.new ≡ self.old }
     {
         let mut counts = Counts {
             clean: 0,

@@ -10,14 +10,14 @@ pub returns-in_default : goal.returns-in_default
 returns-in_default g c =
     let s = c.args.self.now in
     let V : Vault = vault (code g.F.Field.m g.F.Field.mul (g.C.ColumnSet.columns s.set) (g.C.ColumnSet.height s.set)) s.blocks s.cells in
-    record { does = inject_no_cell V (g.B.Bank.row s.bank) c.args.cell c.args.pattern.now c.in_default.ensures.lies; kept = (refl, (refl, refl)) }
+    record { does = inject_no_cell V (g.B.Bank.row s.bank) c.args.cell c.args.pattern.now c.in_default.ensures.lies; kept = (refl, (refl, refl)); seams = refl; refused = refl }
 
 pub returns-then-pattern-f : goal.returns-then-pattern-f
 returns-then-pattern-f g c =
     let s = c.args.self.now in
     let V : Vault = vault (code g.F.Field.m g.F.Field.mul (g.C.ColumnSet.columns s.set) (g.C.ColumnSet.height s.set)) s.blocks s.cells in
     let lies = c.in-Some.ensures.lies in
-    record { does = inject_no_size V (g.B.Bank.row s.bank) c.args.cell c.args.pattern.now lies.0 (λ e. c.if-pattern-f.true (e ∙ sym lies.2)); kept = (refl, (refl, refl)) }
+    record { does = inject_no_size V (g.B.Bank.row s.bank) c.args.cell c.args.pattern.now lies.0 (λ e. c.if-pattern-f.true (e ∙ sym lies.2)); kept = (refl, (refl, refl)); seams = refl; refused = refl }
 
 pub returns : goal.returns
 returns g c =
@@ -33,6 +33,8 @@ returns g c =
     let long : length c.xor_into.new.bytes ≡ cell_bytes V = omega (arith, room, lies.2) in
     let d = inject_done V row c.args.cell pattern lies.0 (c.if-pattern-f.false ∙ lies.2) in
     record {
-      does = (d.0, c.store.ensures ∙ stored V row c.args.cell span.start c.xor_into.new.bytes lies.1 long ∙ ap (λ xs. with_cell V c.args.cell xs row) after ∙ d.1);
+      does = (d.0, c.store.ensures.changed ∙ stored V row c.args.cell span.start c.xor_into.new.bytes lies.1 long ∙ ap (λ xs. with_cell V c.args.cell xs row) after ∙ d.1);
       kept = (refl, (refl, refl));
+      seams = c.store.ensures.seams;
+      refused = tt;
     }

@@ -46,6 +46,8 @@ returns-in-Err g c =
       swept = sym (ap (λ xs. with_cell V c.args.cell xs row) (refused_stays V.K o c.in-Err.field-0 (cell V c.args.cell row) e) ∙ with_own V c.args.cell row);
       counts = (counted.clean, (counted.mended, counted.refused));
       kept = (refl, (refl, refl));
+      seams = refl;
+      still = λ none. refl;
     }
 
 pub returns-in-Clean : goal.returns-in-Clean
@@ -61,6 +63,8 @@ returns-in-Clean g c =
       swept = sym (ap (λ xs. with_cell V c.args.cell xs row) (clean_stays V.K o a (cell V c.args.cell row) e) ∙ with_own V c.args.cell row);
       counts = (counted.clean, (counted.mended, counted.refused));
       kept = (refl, (refl, refl));
+      seams = refl;
+      still = λ none. refl;
     }
 
 pub returns-in-Mended : goal.returns-in-Mended
@@ -77,7 +81,9 @@ returns-in-Mended g c =
     let bytes : c.renew.new.frame ≡ swept_cell V c.args.cell row = c.renew.ensures.frame ∙ ap₂ (renewed V.K) (is_cell g at) (opens g at) in
     let counted = one_mended (cell_opening V c.args.cell row) c.in-Mended.field-0 a e in
     record {
-      swept = c.store.ensures ∙ stored V row c.args.cell c.in-Some.span.start c.renew.new.frame lies.1 long ∙ ap (λ xs. with_cell V c.args.cell xs row) bytes;
+      swept = c.store.ensures.changed ∙ stored V row c.args.cell c.in-Some.span.start c.renew.new.frame lies.1 long ∙ ap (λ xs. with_cell V c.args.cell xs row) bytes;
       counts = (counted.clean, (counted.mended, counted.refused));
       kept = (refl, (refl, refl));
+      seams = c.store.ensures.seams;
+      still = λ none. absurd (omega arith);
     }

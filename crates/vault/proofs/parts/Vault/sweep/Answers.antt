@@ -70,6 +70,8 @@ loop-cell-preserved g c =
       kept.1.1 ∙ inv.2,
       one_more V row i (inside g at) mid c.loop-cell.counts.clean c.loop-cell.counts.mended c.loop-cell.counts.refused inv.3 (g.B.Bank.row c.mend-found.new.self.bank)
           (c.mend-found.ensures.swept ∙ ap (λ X. with_cell X i (swept_cell X i mid) mid) stays) r.clean r.mended r.refused counted,
+      λ none. c.mend-found.ensures.still (omega arith) ∙ inv.4 (omega arith),
+      c.mend-found.ensures.seams ∙ inv.5,
     )
 
 pub returns : goal.returns
@@ -83,4 +85,6 @@ returns g c =
     record {
       does = (counts, refl, record { long = all.long; each = all.each; rest = all.rest; clean = all.clean; mended = all.mended; refused = all.refused });
       kept = (inv.0, (inv.1, inv.2));
+      seams = inv.5;
+      still = inv.4;
     }

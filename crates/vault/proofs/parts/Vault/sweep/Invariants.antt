@@ -13,3 +13,4 @@ abbrev pub invariant-loop-cell : goal.invariant-loop-cell
 invariant-loop-cell g l =
     (l.self.set ≡ l.initial.self.set) × (l.self.blocks ≡ l.initial.self.blocks) × (l.self.cells ≡ l.initial.self.cells)
     × Swept (vault_of g l.initial.self) (g.B.Bank.row l.initial.self.bank) l.cell (g.B.Bank.row l.self.bank) l.counts.clean l.counts.mended l.counts.refused
+    × (l.counts.mended ≡ 0 → l.self ≡ l.initial.self) × (g.B.Bank.seams l.self.bank ≡ g.B.Bank.seams l.initial.self.bank)

@@ -10,13 +10,13 @@ pub returns-in_default : goal.returns-in_default
 returns-in_default g c =
     let s = c.args.self.now in
     let V : Vault = vault (code g.F.Field.m g.F.Field.mul (g.C.ColumnSet.columns s.set) (g.C.ColumnSet.height s.set)) s.blocks s.cells in
-    record { does = write_no_cell V (g.B.Bank.row s.bank) c.args.cell c.args.word.now (salt_number c.args.salt) c.in_default.ensures.lies; kept = (refl, (refl, refl)) }
+    record { does = write_no_cell V (g.B.Bank.row s.bank) c.args.cell c.args.word.now (salt_number c.args.salt) c.in_default.ensures.lies; kept = (refl, (refl, refl)); seams = refl; refused = refl }
 
 pub returns-then-word-self : goal.returns-then-word-self
 returns-then-word-self g c =
     let s = c.args.self.now in
     let V : Vault = vault (code g.F.Field.m g.F.Field.mul (g.C.ColumnSet.columns s.set) (g.C.ColumnSet.height s.set)) s.blocks s.cells in
-    record { does = write_no_size V (g.B.Bank.row s.bank) c.args.cell c.args.word.now (salt_number c.args.salt) c.in-Some.ensures.lies.0 c.if-word-self.true; kept = (refl, (refl, refl)) }
+    record { does = write_no_size V (g.B.Bank.row s.bank) c.args.cell c.args.word.now (salt_number c.args.salt) c.in-Some.ensures.lies.0 c.if-word-self.true; kept = (refl, (refl, refl)); seams = refl; refused = refl }
 
 pub returns-in-Ok : goal.returns-in-Ok
 returns-in-Ok g c =
@@ -31,7 +31,7 @@ returns-in-Ok g c =
     let d =
     write_done V row c.args.cell c.args.word.now (salt_number c.args.salt) lies.0 c.if-word-self.false (take (span.bytes - 0) (replicate 56 0)) c.seal.new.frame (room ∙ lies.2)
     told.answer told.frame in
-    record { does = (d.0, c.store.ensures ∙ stored V row c.args.cell span.start c.seal.new.frame lies.1 long ∙ d.1); kept = (refl, (refl, refl)) }
+    record { does = (d.0, c.store.ensures.changed ∙ stored V row c.args.cell span.start c.seal.new.frame lies.1 long ∙ d.1); kept = (refl, (refl, refl)); seams = c.store.ensures.seams; refused = tt }
 
 pub returns-in-Err : goal.returns-in-Err
 returns-in-Err g c =
@@ -44,4 +44,6 @@ returns-in-Err g c =
     record {
       does = write_no_seal V row c.args.cell c.args.word.now (salt_number c.args.salt) lies.0 c.if-word-self.false _ (room ∙ lies.2) c.in-Err.fault c.in-Err.ensures.answer;
       kept = (refl, (refl, refl));
+      seams = refl;
+      refused = refl;
     }
