@@ -90,6 +90,11 @@ OneBlock K =
     (ys : List ℕ) (a c t i j : ℕ) → Sealable K ys a → t < K.m → i < length ys → j < length ys
     → check_value K.mul (flipped ys i t) a ≡ c → check_value K.mul (flipped ys j t) a ≡ c → i ≡ j
 
+-- Leftover bits: a sealing sets none, and an opening looks at none.
+pub record Leftover (K : Code) : Type 0 where
+  pub unset : (ys : List ℕ) (a : ℕ) → Sealable K ys a → sealing K ys a < 2 ^ frame_bits K (length ys)
+  pub unseen : (b N : ℕ) → opening K b N ≡ opening K b (bits_of K b N)
+
 -- all that is promised of the frames of a code
 pub record Promises (K : Code) : Type 0 where
   pub clean : CleanMeansSealed K
@@ -98,3 +103,4 @@ pub record Promises (K : Code) : Type 0 where
   pub two_flips : TwoFlips K
   pub few_salts : FewSalts K
   pub one_block : OneBlock K
+  pub leftover : Leftover K
