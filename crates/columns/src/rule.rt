@@ -14,7 +14,14 @@ impl ColumnSet for RuleSet {
 
     ghost height = { λ _. 5 };
 
-    ghost laws = { λ _. record { small = λ t lt. (sound 5 (non_powers 17) rule_passes t lt).0; nonzero = λ t lt. (sound 5 (non_powers 17) rule_passes t lt).1; no_power = λ t k lt. (sound 5 (non_powers 17) rule_passes t lt).2 k; differ = Prim.search (rules, differ 5 (non_powers 17) rule_passes) } };
+    ghost laws = { λ _.
+        let kept = sound 5 (non_powers 17) rule_passes in
+        record {
+          small = λ t lt. (kept t lt).0;
+          nonzero = λ t lt. (kept t lt).1;
+          no_power = λ t k lt. (kept t lt).2 k;
+          differ = Prim.search (rules, differ 5 (non_powers 17) rule_passes);
+        } };
 
     fn count(&self) -> u32 {
         17

@@ -15,7 +15,14 @@ impl ColumnSet for TableSet {
 
     ghost height = { λ _. 4 };
 
-    ghost laws = { λ _. record { small = λ t lt. (sound 4 listed table_passes t lt).0; nonzero = λ t lt. (sound 4 listed table_passes t lt).1; no_power = λ t k lt. (sound 4 listed table_passes t lt).2 k; differ = Prim.search (rules, differ 4 listed table_passes) } };
+    ghost laws = { λ _.
+        let kept = sound 4 listed table_passes in
+        record {
+          small = λ t lt. (kept t lt).0;
+          nonzero = λ t lt. (kept t lt).1;
+          no_power = λ t k lt. (kept t lt).2 k;
+          differ = Prim.search (rules, differ 4 listed table_passes);
+        } };
 
     fn count(&self) -> u32 {
         7
