@@ -4,7 +4,7 @@ use Rattle.std.proofs.Common.{◌≡◌, ℕ, ◌+◌, ◌*◌, ◌<◌, ◌≤�
 use lib.Seq.{paste}
 use Rattle.std.proofs.lemmas.Bool.{cond-true, cond-false, lt-ltb, le-ltb, eq-eqb, ne_eqb}
 use Rattle.bits.specs.Rows.{xored}
-use Rattle.frame.specs.Opening.{Outcome, clean, mended, refused, answer, filled, opening, row_opening}
+use Rattle.frame.specs.Opening.{Outcome, clean, mended, refused, answer, filled, row_opening}
 use Rattle.frame.specs.Sealing.{sealing, row_sealing, seal_answer, sealed_row, bytes_of}
 use Rattle.frame.specs.declared.verdict.OpenFault.{OpenFault}
 use Rattle.frame.specs.declared.verdict.SealFault.{SealFault}

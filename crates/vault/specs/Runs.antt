@@ -4,7 +4,7 @@ use Rattle.std.specs.Prelude.{◌≡◌, ℕ, ◌^◌, ◌<◌, ◌≤◌, List,
 use Rattle.bits.specs.Rows.{Bytes, little}
 use Rattle.frame.specs.Code.{frame_bits}
 use Rattle.frame.specs.Promises.{bits_of, part_hit}
-use Rattle.vault.specs.Cells.{Vault, cell}
+use Rattle.vault.specs.Cells.{Vault}
 use Rattle.vault.specs.Calls.{Call, write, read, sweep, inject, Answer, wrote, struck, Does}
 
 -- a pattern is a row of bytes

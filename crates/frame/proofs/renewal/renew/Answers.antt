@@ -1,7 +1,7 @@
 use Rattle.std.proofs.Common.{◌≡◌, length, Ok, Err, sym, ap, ◌∙◌, ap₂, arith}
 use Rattle.std.proofs.lemmas.Result.{err_from_is_err_and}
 use Rattle.frame.specs.Code.{Code, code, frame_bytes, sized}
-use Rattle.frame.specs.Opening.{row_opening, mended, answer}
+use Rattle.frame.specs.Opening.{row_opening, mended}
 use Rattle.frame.specs.Renewal.{renewed}
 use Rattle.frame.specs.Sealing.{bytes_of}
 use Rattle.frame.proofs.Mendable.{mending, mended_answer, clean_stays, refused_stays}
