@@ -4,7 +4,7 @@ use Rattle.std.proofs.Common.{◌≡◌, ℕ, zero, suc, ◌*◌, ◌/◌, ◌%�
 use lib.Bits.{bit_xor, xor_assoc, xor_comm, xor_self, xor_zero_r, xor_shr, xor_mod, xor_lt, xor_shifted}
 use lib.Arith.{lt-one}
 use lib.Pow.{split, pow-lt}
-use Rattle.std.specs.List.{AllByRecursion as All}
+use Rattle.std.specs.List.{AllByRecursion}
 use Rattle.bits.specs.Digits.{pick, Linear}
 
 -- the middle two of four are exchanged
@@ -43,7 +43,7 @@ digit_lt k c zero hc hd = rw zero-mul (pow_pos k)
 digit_lt k c (suc zero) hc hd = rw one-mul hc
 digit_lt k c (suc (suc d)) hc hd = absurd (omega arith)
 
-pub pick_lt : (k : ℕ) (cs : List ℕ) (x : ℕ) → All (λ c. c < 2 ^ k) cs → pick cs x < 2 ^ k
+pub pick_lt : (k : ℕ) (cs : List ℕ) (x : ℕ) → AllByRecursion (λ c. c < 2 ^ k) cs → pick cs x < 2 ^ k
 pick_lt k [] x small = pow_pos k
 pick_lt k (c ∷ cs) x small =
     xor_lt k (x % 2 * c) (pick cs (x / 2)) (digit_lt k c (x % 2) small.0 (mod-lt x (omega arith))) (pick_lt k cs (x / 2) small.1)

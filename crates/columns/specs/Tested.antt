@@ -4,7 +4,7 @@
 -- Assumes nothing.
 use Rattle.std.specs.Prelude.{◌≡◌, ℕ, zero, suc, ◌^◌, ◌<◌, ◌≤◌, Bool, true, false, not, ◌&&◌, List, [], ◌∷◌, length, ◌==◌, ◌≢◌, nat_lt, slice_index, refl}
 use Rattle.std.proofs.Common.{sym, ap, subst, ⊎_elim, le_of_suc-le-suc, not-suc-le-zero, arith, pow_mono}
-use Rattle.std.specs.List.{AllByRecursion as All}
+use Rattle.std.specs.List.{AllByRecursion}
 use Rattle.std.proofs.ByRecursion.{All-get_or}
 use Rattle.std.proofs.lemmas.Bool.{and_parts, not-true, both_ways, ltb-true, eqb-false, eq-eqb, or_left, or_right, cases_order, cases_lt}
 use Rattle.columns.specs.Rule.{is_power, non_powers}
@@ -63,7 +63,7 @@ parts h c cs test =
     let rest = and_parts (absent c cs) (lawful h cs) first.1 in
     (first.0, rest.0, rest.1)
 
-all_plain : (h : ℕ) (cs : List ℕ) → lawful h cs ≡ true → All (Plain h) cs
+all_plain : (h : ℕ) (cs : List ℕ) → lawful h cs ≡ true → AllByRecursion (Plain h) cs
 all_plain h [] test = tt
 all_plain h (c ∷ cs) test = let p = parts h c cs test in (plain_holds h c p.0, all_plain h cs p.2)
 

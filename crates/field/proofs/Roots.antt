@@ -2,7 +2,7 @@
 -- Assumes nothing.
 use Rattle.std.proofs.Common.{◌≡◌, ℕ, suc, ◌^◌, ◌<◌, List, [], ◌∷◌, length, sym, refl, ap, ◌∙◌, ap₂, ⊎_elim, le_trans, le_of_eq, le_of_suc-le-suc, arith, pow_pos}
 use lib.Bits.{bit_xor, xor_lt, xor_comm}
-use Rattle.std.specs.List.{AllByRecursion as All}
+use Rattle.std.specs.List.{AllByRecursion}
 use Rattle.bits.proofs.Digits.{xor_inner, xor_equal}
 use Rattle.field.specs.Laws.{Laws}
 use Rattle.field.specs.Polynomials.{value_at, Roots}
@@ -14,11 +14,11 @@ tails mul x [] = []
 tails mul x (c ∷ cs) = value_at mul (c ∷ cs) x ∷ tails mul x cs
 
 module _ (m : ℕ) (mul : ℕ → ℕ → ℕ) (laws : Laws m mul) where
-  pub value_lt : (cs : List ℕ) (x : ℕ) → All (λ c. c < 2 ^ m) cs → x < 2 ^ m → value_at mul cs x < 2 ^ m
+  pub value_lt : (cs : List ℕ) (x : ℕ) → AllByRecursion (λ c. c < 2 ^ m) cs → x < 2 ^ m → value_at mul cs x < 2 ^ m
   value_lt [] x small hx = pow_pos m
   value_lt (c ∷ cs) x small hx = xor_lt m _ _ small.0 (laws.closed x _ hx (value_lt cs x small.1 hx))
 
-  tails_lt : (x : ℕ) (cs : List ℕ) → x < 2 ^ m → All (λ c. c < 2 ^ m) cs → All (λ c. c < 2 ^ m) (tails mul x cs)
+  tails_lt : (x : ℕ) (cs : List ℕ) → x < 2 ^ m → AllByRecursion (λ c. c < 2 ^ m) cs → AllByRecursion (λ c. c < 2 ^ m) (tails mul x cs)
   tails_lt x [] hx small = tt
   tails_lt x (c ∷ cs) hx small = (value_lt (c ∷ cs) x small hx, tails_lt x cs hx small.1)
 
@@ -49,7 +49,7 @@ module _ (m : ℕ) (mul : ℕ → ℕ → ℕ) (laws : Laws m mul) where
       ∙ xor_inner (mul x u) (mul y v) (mul y u) ∙ xor_comm (mul x u) (mul y v))
 
   -- the difference of the values at y and at x is y + x times the quotient's value
-  division : (x y : ℕ) (cs : List ℕ) → x < 2 ^ m → y < 2 ^ m → All (λ c. c < 2 ^ m) cs
+  division : (x y : ℕ) (cs : List ℕ) → x < 2 ^ m → y < 2 ^ m → AllByRecursion (λ c. c < 2 ^ m) cs
       → bit_xor (mul y (value_at mul cs y)) (mul x (value_at mul cs x)) ≡ mul (bit_xor y x) (value_at mul (tails mul x cs) y)
   division x y [] hx hy small =
       ap₂ bit_xor (mul_zero m mul laws y hy) (mul_zero m mul laws x hx) ∙ sym (mul_zero m mul laws (bit_xor y x) (xor_lt m y x hy hx))
@@ -60,7 +60,7 @@ module _ (m : ℕ) (mul : ℕ → ℕ → ℕ) (laws : Laws m mul) where
       ∙ xor_inner (mul y (value_at mul cs y)) (mul x (value_at mul cs x)) c ∙ division x y cs hx hy small.1)
 
   -- another root is a root of the quotient
-  other_root : (x y c : ℕ) (cs : List ℕ) → x < 2 ^ m → y < 2 ^ m → All (λ v. v < 2 ^ m) cs → (x ≡ y → ⊥)
+  other_root : (x y c : ℕ) (cs : List ℕ) → x < 2 ^ m → y < 2 ^ m → AllByRecursion (λ v. v < 2 ^ m) cs → (x ≡ y → ⊥)
       → value_at mul (c ∷ cs) x ≡ 0 → value_at mul (c ∷ cs) y ≡ 0 → value_at mul (tails mul x cs) y ≡ 0
   other_root x y c cs hx hy small apart at_x at_y =
       let none : mul (bit_xor y x) (value_at mul (tails mul x cs) y) ≡ 0 =
@@ -70,8 +70,8 @@ module _ (m : ℕ) (mul : ℕ → ℕ → ℕ) (laws : Laws m mul) where
       ⊎_elim (λ e. absurd (apart (sym (xor_equal y x e)))) (λ e. e)
       (laws.integral (bit_xor y x) (value_at mul (tails mul x cs) y) (xor_lt m y x hy hx) (value_lt (tails mul x cs) y (tails_lt x cs hx small) hy) none)
 
-  other_roots : (x c : ℕ) (cs ys : List ℕ) → x < 2 ^ m → All (λ v. v < 2 ^ m) cs → All (λ y. y < 2 ^ m) ys → All (λ y. x ≡ y → ⊥) ys
-      → value_at mul (c ∷ cs) x ≡ 0 → All (λ y. value_at mul (c ∷ cs) y ≡ 0) ys → All (λ y. value_at mul (tails mul x cs) y ≡ 0) ys
+  other_roots : (x c : ℕ) (cs ys : List ℕ) → x < 2 ^ m → AllByRecursion (λ v. v < 2 ^ m) cs → AllByRecursion (λ y. y < 2 ^ m) ys → AllByRecursion (λ y. x ≡ y → ⊥) ys
+      → value_at mul (c ∷ cs) x ≡ 0 → AllByRecursion (λ y. value_at mul (c ∷ cs) y ≡ 0) ys → AllByRecursion (λ y. value_at mul (tails mul x cs) y ≡ 0) ys
   other_roots x c cs [] hx small hys apart at_x at-ys = tt
   other_roots x c cs (y ∷ ys) hx small hys apart at_x at-ys =
       (other_root x y c cs hx hys.0 small apart.0 at_x at-ys.0, other_roots x c cs ys hx small hys.1 apart.1 at_x at-ys.1)
@@ -80,7 +80,7 @@ module _ (m : ℕ) (mul : ℕ → ℕ → ℕ) (laws : Laws m mul) where
   coefficient : (x c v : ℕ) → x < 2 ^ m → bit_xor c (mul x v) ≡ 0 → v ≡ 0 → c ≡ 0
   coefficient x c v hx whole rest = xor_equal c (mul x v) whole ∙ ap (mul x) rest ∙ mul_zero m mul laws x hx
 
-  all_zero : (x : ℕ) (cs : List ℕ) → x < 2 ^ m → All (λ c. c ≡ 0) (tails mul x cs) → All (λ c. c ≡ 0) cs
+  all_zero : (x : ℕ) (cs : List ℕ) → x < 2 ^ m → AllByRecursion (λ c. c ≡ 0) (tails mul x cs) → AllByRecursion (λ c. c ≡ 0) cs
   all_zero x [] hx zeros = tt
   all_zero x (c ∷ []) hx zeros = (coefficient x c 0 hx zeros.0 refl, tt)
   all_zero x (c ∷ d ∷ cs) hx zeros = (coefficient x c (value_at mul (d ∷ cs) x) hx zeros.0 zeros.1.0, all_zero x (d ∷ cs) hx zeros.1)

@@ -7,7 +7,7 @@ use Rattle.std.proofs.Math.Path.{ap₂}
 use Rattle.std.specs.Int.Bits.{xor_zero_r}
 use Rattle.std.proofs.lemmas.Nat.{xor_shr, xor_block}
 use Rattle.std.proofs.Math.Pow.{pow-lt}
-use Rattle.std.specs.List.{AllByRecursion as All}
+use Rattle.std.specs.List.{AllByRecursion}
 use Rattle.bits.specs.Digits.{pick, Linear}
 use Rattle.bits.proofs.Digits.{xor_middle, digit_times, digit_lt, pick_linear, pick_lt, linear_zero, linear_agree, linear_lt}
 use Rattle.field.specs.Products.{times_z, orbit, product}
@@ -25,7 +25,7 @@ digit_linear (suc (suc d)) x y h = absurd (omega arith)
 
 -- picking from the orbit of f at an x from which k steps may be taken, D k x, so that all stays below 2 ^ m
 module _ (m : ℕ) (f : ℕ → ℕ) (D : ℕ → ℕ → Type 0) (below : (k x : ℕ) → D k x → x < 2 ^ m) (next : (k x : ℕ) → D (suc k) x → D k (f x)) where
-  orbit_lt : (k x : ℕ) → D k x → All (λ c. c < 2 ^ m) (orbit k f x)
+  orbit_lt : (k x : ℕ) → D k x → AllByRecursion (λ c. c < 2 ^ m) (orbit k f x)
   orbit_lt zero x hx = tt
   orbit_lt (suc k) x hx = (below (suc k) x hx, orbit_lt k (f x) (next k x hx))
 

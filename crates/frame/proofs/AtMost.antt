@@ -1,25 +1,25 @@
 -- How many different numbers can have a property: bounds, and the bound of a union.
 -- Assumes nothing.
 use Rattle.std.proofs.Common.{◌≡◌, ℕ, zero, suc, ◌+◌, ◌*◌, ◌<◌, ◌≤◌, ◌⊎◌, List, [], ◌∷◌, length, sym, refl, subst, inl, inr, ⊎_elim, suc-mul, arith}
-use Rattle.std.specs.List.{AllByRecursion as All}
+use Rattle.std.specs.List.{AllByRecursion}
 use Rattle.std.proofs.ByRecursion.{All-weaker}
 use Rattle.std.proofs.lemmas.Bool.{cases_eq}
 use Rattle.field.specs.Polynomials.{Distinct}
 
 -- of different numbers with the property P there are at most n
 abbrev pub AtMost : ℕ → (ℕ → Type 0) → Type 0
-AtMost n P = (xs : List ℕ) → Distinct xs → All P xs → length xs ≤ n
+AtMost n P = (xs : List ℕ) → Distinct xs → AllByRecursion P xs → length xs ≤ n
 
 -- x is none of xs
 abbrev Apart : ℕ → List ℕ → Type 0
-Apart x xs = All (λ y. x ≡ y → ⊥) xs
+Apart x xs = AllByRecursion (λ y. x ≡ y → ⊥) xs
 
 -- xs dealt out into those with A and those with B
 record Dealt (A B : ℕ → Type 0) (xs : List ℕ) : Type 0 where
   left : List ℕ
   right : List ℕ
-  left_all : All A left
-  right_all : All B right
+  left_all : AllByRecursion A left
+  right_all : AllByRecursion B right
   left_distinct : Distinct left
   right_distinct : Distinct right
   apart : (x : ℕ) → Apart x xs → Apart x left × Apart x right
@@ -54,7 +54,7 @@ module _ (A B : ℕ → Type 0) where
         counted = omega arith;
       }
 
-  deal : (xs : List ℕ) → Distinct xs → All (λ x. A x ⊎ B x) xs → Dealt A B xs
+  deal : (xs : List ℕ) → Distinct xs → AllByRecursion (λ x. A x ⊎ B x) xs → Dealt A B xs
   deal [] distinct each =
       record {
         left = [];

@@ -2,7 +2,7 @@
 -- Assumes nothing.
 use Rattle.std.proofs.Common.{◌≡◌, ℕ, zero, suc, ◌+◌, ◌-◌, ◌*◌, ◌/◌, ◌%◌, ◌^◌, ◌<◌, ◌≤◌, List, [], ◌∷◌, ◌++◌, length, sym, refl, ap, ◌∙◌, subst, ap₂, ⊎_elim, mod-lt, mod-eq_of_lt, add-one, arith, length-append, pow_pos}
 use lib.Bits.{bit_xor, xor_assoc, xor_comm, xor_self, xor_zero_r, xor_mod, xor_lt}
-use Rattle.std.specs.List.{AllByRecursion as All}
+use Rattle.std.specs.List.{AllByRecursion}
 use Rattle.std.proofs.ByRecursion.{All-from_get_or, All-push, All-weaker}
 use Rattle.std.proofs.lemmas.Bool.{cases_eq, cases_lt}
 use Rattle.bits.specs.Rows.{xored}
@@ -24,19 +24,19 @@ abbrev pub Passes : ℕ → (ℕ → ℕ → ℕ) → List ℕ → List ℕ → 
 Passes m mul ys zs d e a = (a < 2 ^ m) × (check_value mul zs (bit_xor a d) ≡ bit_xor (check_value mul ys a) e)
 
 -- a polynomial of n + 1 coefficients, not all 0, has at most n roots
-few_roots : (m : ℕ) (mul : ℕ → ℕ → ℕ) → Laws m mul → (n : ℕ) (cs : List ℕ) → length cs ≤ suc n → All (λ c. c < 2 ^ m) cs → (All (λ c. c ≡ 0) cs → ⊥)
+few_roots : (m : ℕ) (mul : ℕ → ℕ → ℕ) → Laws m mul → (n : ℕ) (cs : List ℕ) → length cs ≤ suc n → AllByRecursion (λ c. c < 2 ^ m) cs → (AllByRecursion (λ c. c ≡ 0) cs → ⊥)
     → AtMost n (λ x. (x < 2 ^ m) × (value_at mul cs x ≡ 0))
 few_roots m mul laws n cs long small some xs distinct each =
     let elements = All-weaker (λ x. (x < 2 ^ m) × (value_at mul cs x ≡ 0)) (λ x. x < 2 ^ m) (λ x h. h.0) xs each in
     let at = All-weaker (λ x. (x < 2 ^ m) × (value_at mul cs x ≡ 0)) (λ x. value_at mul cs x ≡ 0) (λ x h. h.1) xs each in
     ⊎_elim (λ more. absurd (some (roots m mul laws cs xs small elements distinct at (omega (arith, more))))) (λ few. few) (cases_lt n (length xs))
 
-all_last : (P : ℕ → Type 0) (xs : List ℕ) (x : ℕ) → All P (xs ++ x ∷ []) → P x
+all_last : (P : ℕ → Type 0) (xs : List ℕ) (x : ℕ) → AllByRecursion P (xs ++ x ∷ []) → P x
 all_last P [] x h = h.0
 all_last P (y ∷ xs) x h = all_last P xs x h.1
 
 -- words whose differences are all 0 are equal
-same_words : (ys zs : List ℕ) → length ys ≡ length zs → All (λ c. c ≡ 0) (xored ys zs) → ys ≡ zs
+same_words : (ys zs : List ℕ) → length ys ≡ length zs → AllByRecursion (λ c. c ≡ 0) (xored ys zs) → ys ≡ zs
 same_words [] [] h none = refl
 same_words [] (z ∷ zs) h none = absurd (omega arith)
 same_words (y ∷ ys) [] h none = absurd (omega arith)
@@ -59,7 +59,7 @@ module _ (m : ℕ) (mul : ℕ → ℕ → ℕ) (ring : Ring m mul) (laws : Laws 
   Passing = Passes m mul ys zs d e
 
   -- where it is a polynomial of at most w + 1 coefficients, not all 0, it has at most w roots
-  few_gaps : (cs : List ℕ) → length cs ≤ suc w → All (λ c. c < 2 ^ m) cs → ((x : ℕ) → x < 2 ^ m → value_at mul cs x ≡ gap x) → (All (λ c. c ≡ 0) cs → ⊥)
+  few_gaps : (cs : List ℕ) → length cs ≤ suc w → AllByRecursion (λ c. c < 2 ^ m) cs → ((x : ℕ) → x < 2 ^ m → value_at mul cs x ≡ gap x) → (AllByRecursion (λ c. c ≡ 0) cs → ⊥)
       → AtMost w Passing
   few_gaps cs short small value some =
       stronger w Passing (λ x. (x < 2 ^ m) × (value_at mul cs x ≡ 0))

@@ -3,7 +3,7 @@
 use Rattle.std.proofs.Common.{◌≡◌, ℕ, zero, suc, ◌+◌, ◌*◌, ◌^◌, ◌<◌, ◌≤◌, List, [], ◌∷◌, ◌++◌, map, length, sym, refl, ap, ◌∙◌, subst, ap₂, le_refl, arith, pow_pos}
 use lib.Bits.{bit_xor, xor_assoc, xor_comm, xor_self, xor_zero_l, xor_zero_r, xor_lt}
 use lib.ListN.{length-map}
-use Rattle.std.specs.List.{AllByRecursion as All}
+use Rattle.std.specs.List.{AllByRecursion}
 use Rattle.bits.specs.Rows.{xored}
 use Rattle.bits.proofs.Rows.{length_xored}
 use Rattle.field.specs.Powers.{power}
@@ -23,14 +23,14 @@ pub record Ring (m : ℕ) (mul : ℕ → ℕ → ℕ) : Type 0 where
 pub record Poly (m : ℕ) (mul : ℕ → ℕ → ℕ) (n : ℕ) (f : ℕ → ℕ) : Type 0 where
   pub coefficients : List ℕ
   pub long : length coefficients ≡ n
-  pub small : All (λ c. c < 2 ^ m) coefficients
+  pub small : AllByRecursion (λ c. c < 2 ^ m) coefficients
   pub value : (x : ℕ) → value_at mul coefficients x ≡ f x
 
 -- the first two of three are exchanged
 pub xor_left : (x y z : ℕ) → bit_xor x (bit_xor y z) ≡ bit_xor y (bit_xor x z)
 xor_left x y z = sym (xor_assoc x y z) ∙ ap (λ v. bit_xor v z) (xor_comm x y) ∙ xor_assoc y x z
 
-pub small_xored : (m : ℕ) (cs ds : List ℕ) → All (λ c. c < 2 ^ m) cs → All (λ c. c < 2 ^ m) ds → All (λ c. c < 2 ^ m) (xored cs ds)
+pub small_xored : (m : ℕ) (cs ds : List ℕ) → AllByRecursion (λ c. c < 2 ^ m) cs → AllByRecursion (λ c. c < 2 ^ m) ds → AllByRecursion (λ c. c < 2 ^ m) (xored cs ds)
 small_xored m [] ds hc hd = tt
 small_xored m (c ∷ cs) [] hc hd = hc
 small_xored m (c ∷ cs) (d ∷ ds) hc hd = (xor_lt m c d hc.0 hd.0, small_xored m cs ds hc.1 hd.1)
@@ -104,7 +104,7 @@ module _ (m : ℕ) (mul : ℕ → ℕ → ℕ) (ring : Ring m mul) where
   value_scaled d [] x = sym (times_zero d)
   value_scaled d (c ∷ cs) x = ap (λ v. bit_xor (mul d c) (mul x v)) (value_scaled d cs x) ∙ simp algebra
 
-  small_scaled : (d : ℕ) (cs : List ℕ) → All (λ c. c < 2 ^ m) (map (mul d) cs)
+  small_scaled : (d : ℕ) (cs : List ℕ) → AllByRecursion (λ c. c < 2 ^ m) (map (mul d) cs)
   small_scaled d [] = tt
   small_scaled d (c ∷ cs) = (ring.closed d c, small_scaled d cs)
 

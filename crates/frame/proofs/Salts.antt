@@ -4,7 +4,7 @@ use Rattle.std.proofs.Common.{◌≡◌, ℕ, zero, suc, ◌+◌, ◌*◌, ◌/�
 use lib.Bits.{bit_xor, xor_assoc, xor_lt}
 use lib.Count.{ones}
 use lib.Pow.{pow-lt}
-use Rattle.std.specs.List.{AllByRecursion as All}
+use Rattle.std.specs.List.{AllByRecursion}
 use Rattle.std.proofs.ByRecursion.{All-from_get_or, All-set, All-weaker}
 use Rattle.std.proofs.lemmas.Bool.{cases_Bool, cond-true, cond-false}
 use Rattle.bits.specs.Rows.{xored}
@@ -88,7 +88,7 @@ module _ (m : ℕ) (mul : ℕ → ℕ → ℕ) (ys us : List ℕ) (t : ℕ) wher
   beside_found a c None h = absurd h
   beside_found a c (Some part) h = ⊎_elim (λ f. f) (λ none. absurd none) (judged_found a c part (refused Unmended) h)
 
-below_from : (m : ℕ) (xs : List ℕ) → All (λ x. x < 2 ^ m) xs → Below m xs
+below_from : (m : ℕ) (xs : List ℕ) → AllByRecursion (λ x. x < 2 ^ m) xs → Below m xs
 below_from m [] h i = pow_pos m
 below_from m (x ∷ xs) h zero = h.0
 below_from m (x ∷ xs) h (suc i) = below_from m xs h.1 i
@@ -123,7 +123,7 @@ module _ (K : Code) (laws : Laws K.m K.mul) (columns : Columns.Laws K.columns K.
   us_long : length us ≡ b
   us_long = length_xored ys (word K b P)
 
-  us_small : All (λ x. x < 2 ^ m) us
+  us_small : AllByRecursion (λ x. x < 2 ^ m) us
   us_small =
       small_xored m ys (word K b P) (All-from_get_or (λ x. x < 2 ^ m) ys 0 (λ i h. ok.small i))
       (All-from_get_or (λ x. x < 2 ^ m) (word K b P) 0 (λ i h. places_below m b P i))

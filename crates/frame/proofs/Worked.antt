@@ -4,7 +4,7 @@ use Rattle.std.proofs.Common.{◌≡◌, ℕ, zero, suc, ◌+◌, ◌*◌, ◌/�
 use native.Mathlib.Nat.{mod-one}
 use lib.Count.{ones, ones_in, ones_step}
 use lib.Pow.{field, mod-mod-pow}
-use Rattle.std.specs.List.{AllByRecursion as All}
+use Rattle.std.specs.List.{AllByRecursion}
 use Rattle.bits.specs.Rows.{little}
 use Rattle.columns.specs.Rule.{non_powers}
 use Rattle.field.specs.Products.{product}
@@ -28,7 +28,7 @@ by_count k K b N =
     (opening_odd K (word K b N) (raw_salt K b N) (check K b N) (syndrome K b N))
 
 -- the rows of a table whose outcomes compute
-opened : (K : Code) (b : ℕ) (rows : List (List ℕ × Outcome)) → All (λ row. by_count (ones_in (frame_bits K b) (little row.0)) K b (little row.0) ≡ row.1) rows → All (λ row. opening K b (little row.0) ≡ row.1) rows
+opened : (K : Code) (b : ℕ) (rows : List (List ℕ × Outcome)) → AllByRecursion (λ row. by_count (ones_in (frame_bits K b) (little row.0)) K b (little row.0) ≡ row.1) rows → AllByRecursion (λ row. opening K b (little row.0) ≡ row.1) rows
 unfolding by_count
 opened K b [] h = tt
 opened K b (row ∷ rows) h = (ap (λ k. by_count k K b (little row.0)) (ones_low (frame_bits K b) (little row.0)) ∙ h.0, opened K b rows h.1)

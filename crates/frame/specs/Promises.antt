@@ -1,7 +1,7 @@
 -- What is promised of one frame: for every code that fits, every word that it can seal and every admitted salt.
 -- Assumes nothing.
 use Rattle.std.specs.Prelude.{◌≡◌, ℕ, suc, ◌+◌, ◌-◌, ◌*◌, ◌/◌, ◌%◌, ◌^◌, ◌<◌, ◌≤◌, true, cond, List, length, Some, None, Option, bit_xor, count_ones, nat_lt, slice_index}
-use Rattle.std.specs.List.{AllByRecursion as All}
+use Rattle.std.specs.List.{AllByRecursion}
 use Rattle.field.specs.Polynomials.{Distinct}
 use Rattle.salt.specs.Admitted.{admitted}
 use Rattle.frame.specs.Code.{Code, fits, sized, frame_bits, frame_bytes}
@@ -81,7 +81,7 @@ abbrev pub FewSalts : Code → Type 0
 FewSalts K =
     (ys : List ℕ) (pattern : ℕ) → Word K ys → pattern < 2 ^ frame_bits K (length ys)
     → (salts : List ℕ) → Distinct salts
-    → All (λ a. Sealable K ys a × OtherWord ys (opening K (length ys) (bit_xor (sealing K ys a) pattern))) salts
+    → AllByRecursion (λ a. Sealable K ys a × OtherWord ys (opening K (length ys) (bit_xor (sealing K ys a) pattern))) salts
     → length salts ≤ (length ys + 1) * weight (length ys)
 
 -- At most one block fits when a flip of bit t in the word is looked for.

@@ -1,7 +1,7 @@
 -- Frames worked out by hand, held against the definitions.
 -- Assumes nothing.
 use Rattle.std.specs.Prelude.{◌≡◌, ℕ, List, [], ◌∷◌, ◌++◌, replicate}
-use Rattle.std.specs.List.{AllByRecursion as All}
+use Rattle.std.specs.List.{AllByRecursion}
 use Rattle.frame.specs.Opening.{Outcome, clean, mended, refused, row_opening}
 use Rattle.frame.specs.Code.{frame_bytes}
 use Rattle.frame.specs.Sealing.{bytes_of, sealing}
@@ -25,7 +25,7 @@ openings =
     ∷ []
 
 pub record Worked : Type 0 where
-  pub opened : All (λ row. row_opening code7 2 row.0 ≡ row.1) openings
+  pub opened : AllByRecursion (λ row. row_opening code7 2 row.0 ≡ row.1) openings
   -- the words 6 3 and sixteen zero blocks, each with the salt 2
   pub sealed : bytes_of (frame_bytes code7 2) (sealing code7 (6 ∷ 3 ∷ []) 2) ≡ 0x86 ∷ 0xc1 ∷ 0xc1 ∷ 0x40 ∷ 0x00 ∷ []
   pub zeros : bytes_of (frame_bytes code17 16) (sealing code17 (replicate 16 0) 2) ≡ replicate 34 0 ++ 0x02 ∷ 0x00 ∷ 0x0a ∷ 0x09 ∷ 0x80 ∷ []

@@ -3,7 +3,7 @@
 use Rattle.std.proofs.Common.{◌≡◌, ℕ, ◌+◌, ◌*◌, ◌^◌, ◌<◌, ◌≤◌, List, [], ◌∷◌, length, ap, ◌∙◌, subst, arith}
 use lib.Bits.{bit_xor}
 use lib.Count.{ones}
-use Rattle.std.specs.List.{AllByRecursion as All}
+use Rattle.std.specs.List.{AllByRecursion}
 use Rattle.std.proofs.ByRecursion.{All-weaker}
 use Rattle.bits.specs.Rows.{little}
 use Rattle.field.specs.Laws.{Laws}
@@ -96,13 +96,13 @@ module _ (V : Vault) (laws : Laws V.K.m V.K.mul) (columns : Columns.Laws V.K.col
         }
 
     few_turned : (b : ℕ) → length ys ≡ b → Word V.K ys → P < 2 ^ frame_bits V.K b → (salts : List ℕ) → Distinct salts
-        → All (λ a. Sealable V.K ys a × OtherWord ys (opening V.K b (bit_xor (sealing V.K ys a) P))) salts → length salts ≤ (b + 1) * weight b
+        → AllByRecursion (λ a. Sealable V.K ys a × OtherWord ys (opening V.K b (bit_xor (sealing V.K ys a) P))) salts → length salts ≤ (b + 1) * weight b
     few_turned b blocks word =
         subst (λ b. P < 2 ^ frame_bits V.K b → (salts : List ℕ) → Distinct salts
-        → All (λ a. Sealable V.K ys a × OtherWord ys (opening V.K b (bit_xor (sealing V.K ys a) P))) salts → length salts ≤ (b + 1) * weight b) blocks
+        → AllByRecursion (λ a. Sealable V.K ys a × OtherWord ys (opening V.K b (bit_xor (sealing V.K ys a) P))) salts → length salts ≤ (b + 1) * weight b) blocks
         (few_salts V.K laws columns ys P word)
 
-    few_misled : (salts : List ℕ) → Distinct salts → All (Misled V first before c ys after places) salts → length salts ≤ (V.b + 1) * weight V.b
+    few_misled : (salts : List ℕ) → Distinct salts → AllByRecursion (Misled V first before c ys after places) salts → length salts ≤ (V.b + 1) * weight V.b
     few_misled [] distinct misled = omega arith
     few_misled (a ∷ salts) distinct misled =
         let t = turned a misled.0 in

@@ -2,7 +2,7 @@
 -- Assumes nothing.
 use Rattle.std.proofs.Common.{◌≡◌, ℕ, ◌^◌, ◌<◌, Bool, true, false, cond, ◌&&◌, eqb, List, [], ◌∷◌, map, length, Ok, sym, refl, ap, ◌∙◌, subst, ap₂, ⊎_elim, mod-lt, arith, pow_pos}
 use lib.Bits.{bit_xor, xor_lt}
-use Rattle.std.specs.List.{AllByRecursion as All}
+use Rattle.std.specs.List.{AllByRecursion}
 use Rattle.std.proofs.lemmas.Bool.{and_parts, and_from, eqb-true, eq-eqb, lt-ltb, cases_Bool, both_ways, cond-true, cond-false, cond_both}
 use Rattle.bits.specs.Rows.{little}
 use Rattle.field.specs.Laws.{Laws}
@@ -84,7 +84,7 @@ module _ (V : Vault) (laws : Laws V.K.m V.K.mul) (columns : Columns.Laws V.K.col
               both_ways (hits V c d pattern) is
               (and_from (eqb d c) (eqb (length pattern) (cell_bytes V)) (eq-eqb d c (same_cell c d pattern p told.0)) (eq-eqb (length pattern) (cell_bytes V) long))
 
-  pub after_calls : (first : List ℕ) → Holds V c ys a 0 first → {events : List Event} {row : List ℕ} → Run V first events row → All (Spares c) events → Holds V c ys a (all_flips V c (map (λ e. e.call) events)) row
+  pub after_calls : (first : List ℕ) → Holds V c ys a 0 first → {events : List Event} {row : List ℕ} → Run V first events row → AllByRecursion (Spares c) events → Holds V c ys a (all_flips V c (map (λ e. e.call) events)) row
   after_calls first h start spared = h
   after_calls first h (more {row = before} {after} {call} {answer} run proper does) spared =
       after_call call answer proper spared.0 _ before after does (after_calls first h run spared.1)

@@ -1,7 +1,7 @@
 -- The law of a vault, over every run: what a read hands out, what two flips do, and how few salts let a chosen pattern through.
 -- Assumes nothing.
 use Rattle.std.specs.Prelude.{◌≡◌, ℕ, ◌+◌, ◌*◌, ◌<◌, ◌≤◌, List, map, length, Ok, Err, ◌≢◌, bit_xor, count_ones}
-use Rattle.std.specs.List.{AllByRecursion as All}
+use Rattle.std.specs.List.{AllByRecursion}
 use Rattle.bits.specs.Rows.{little}
 use Rattle.field.specs.Polynomials.{Distinct}
 use Rattle.frame.specs.Checks.{weight}
@@ -66,7 +66,7 @@ pub record Misled (V : Vault) (first : List ℕ) (before : List Call) (c : ℕ) 
   pub row₂ : List ℕ
   pub run₁ : Run V row₁ later row₂
   pub calls₁ : map (λ e. e.call) later ≡ after
-  pub spared : All (Spares c) later
+  pub spared : AllByRecursion (Spares c) later
   pub answer : Answer
   pub row₃ : List ℕ
   pub read_of : Does V row₂ (read c places) answer row₃
@@ -76,7 +76,7 @@ pub record Misled (V : Vault) (first : List ℕ) (before : List Call) (c : ℕ) 
 abbrev pub FewMislead : Vault → Type 0
 FewMislead V =
     (first : List ℕ) (before : List Call) (c : ℕ) (ys : List ℕ) (after : List Call) (places : List ℕ)
-    → (salts : List ℕ) → Distinct salts → All (Misled V first before c ys after places) salts
+    → (salts : List ℕ) → Distinct salts → AllByRecursion (Misled V first before c ys after places) salts
     → length salts ≤ (V.b + 1) * weight V.b
 
 -- the law
