@@ -1,7 +1,6 @@
 // The rule set: 17 data bits, 5 bits to a column. Bit t has the number at place t among the numbers from 3 upward that
 // are no powers of two.
 ghost use Rattle.columns.specs.Rule.{non_powers};
-ghost use Rattle.std.proofs.Common.{rules};
 ghost use Rattle.columns.specs.Tested.{sound, differ, rule_passes};
 
 use crate::ColumnSet;
@@ -20,7 +19,7 @@ impl ColumnSet for RuleSet {
           small = λ t lt. (kept t lt).0;
           nonzero = λ t lt. (kept t lt).1;
           no_power = λ t k lt. (kept t lt).2 k;
-          differ = Prim.search (rules, differ 5 (non_powers 17) rule_passes);
+          differ = differ 5 (non_powers 17) rule_passes;
         } };
 
     fn count(&self) -> u32 {

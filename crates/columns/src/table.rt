@@ -1,6 +1,5 @@
 // The table set: a column for each of 7 data bits, 4 bits to a column.
 ghost use Rattle.columns.specs.Table.{listed};
-ghost use Rattle.std.proofs.Common.{rules};
 ghost use Rattle.columns.specs.Tested.{sound, differ, table_passes};
 
 use crate::ColumnSet;
@@ -21,7 +20,7 @@ impl ColumnSet for TableSet {
           small = λ t lt. (kept t lt).0;
           nonzero = λ t lt. (kept t lt).1;
           no_power = λ t k lt. (kept t lt).2 k;
-          differ = Prim.search (rules, differ 4 listed table_passes);
+          differ = differ 4 listed table_passes;
         } };
 
     fn count(&self) -> u32 {
