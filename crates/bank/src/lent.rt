@@ -1,6 +1,6 @@
 // A bank over a slice that is lent for writing. A slice of more than 65,536 bytes is a bank of length 0.
 ghost use Rattle.std.specs.Prelude.{◌≡◌};
-ghost use Rattle.bank.specs.Rows.{bounded, bounded_short, none};
+ghost use Rattle.bank.specs.Rows.{bounded, bounded_short};
 
 use crate::{Bank, BankFault, MOST};
 
@@ -28,8 +28,6 @@ impl<'a> Lent<'a> {
 
 impl<'a> Bank for Lent<'a> {
     ghost row = { λ s. bounded s.bytes.now };
-
-    ghost seams = { λ _. none };
 
     ghost short = { λ s. bounded_short s.bytes.now };
 

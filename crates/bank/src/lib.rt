@@ -3,7 +3,7 @@
 
 ghost use Rattle.std.specs.Prelude.{◌≡◌, ℕ, ◌≤◌, List, length, OnErr};
 ghost use Rattle.bank.specs.Calls.{fault_number, Gives, Puts};
-ghost use Rattle.bank.specs.Rows.{Seams};
+ghost use Rattle.bank.specs.Rows.{Seams, none};
 
 mod joined;
 mod lent;
@@ -40,7 +40,7 @@ pub trait Bank {
     ghost short: { (b : Self) → length (row b) ≤ 65536 };
 
     // where the banks that it is made of meet
-    ghost seams: { Self → Seams };
+    ghost seams: { Self → Seams } = { λ _. none };
 
     // How many bytes the bank has.
     fn len(&self) -> usize

@@ -1,6 +1,6 @@
 // A bank that owns its 512 bytes.
 ghost use Rattle.std.specs.Prelude.{◌≡◌, replicate};
-ghost use Rattle.bank.specs.Rows.{bounded, bounded_short, none};
+ghost use Rattle.bank.specs.Rows.{bounded, bounded_short};
 
 use crate::{Bank, BankFault};
 
@@ -28,8 +28,6 @@ impl Owned {
 
 impl Bank for Owned {
     ghost row = { λ s. bounded s.bytes };
-
-    ghost seams = { λ _. none };
 
     ghost short = { λ s. bounded_short s.bytes };
 
