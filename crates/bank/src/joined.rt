@@ -1,14 +1,23 @@
 // Two banks in a row, as one bank: the second's bytes come after the first's. A pair of more than 65,536 bytes together is a
 // bank of length 0.
-ghost use Rattle.std.specs.Prelude.{◌≡◌, ◌+◌, ◌<◌, ◌++◌, length, MatchOption};
+ghost use Rattle.std.specs.Prelude.{◌≡◌, ◌++◌, length};
 ghost use Rattle.bank.specs.Rows.{bounded, bounded_short, seam};
+ghost use Rattle.bank.specs.Parts.{Finds};
 
-use crate::{Bank, BankFault, MOST};
+use crate::row::bounded_len;
+use crate::{Bank, BankFault};
 
 #[derive(Drop)]
 pub struct Joined<A, B> {
     first: A,
     second: B,
+}
+
+// Which of the two banks a place lies in, and the place there.
+#[derive(Clone, Copy)]
+enum Part {
+    First(usize),
+    Second(usize),
 }
 
 impl<A: Bank, B: Bank> Joined<A, B> {
@@ -22,15 +31,18 @@ impl<A: Bank, B: Bank> Joined<A, B> {
     pub fn into_parts(self) -> (A, B)
         ensures { (result.0 ≡ self.first) × (result.1 ≡ self.second) }
     {
-        let Joined { first, second } = self;
-        (first, second)
+        (self.first, self.second)
     }
 
-    // The place in the second bank, if a place lies past the first.
-    fn past_first(&self, place: usize) -> Option<usize>
-        ensures { MatchOption result (place < length (A.Bank.row self.now.first)) (λ rest. place ≡ length (A.Bank.row self.now.first) + rest) }
+    // The part that a place lies in; the refusal of a place outside.
+    fn part(&self, place: usize) -> Result<Part, BankFault>
+        ensures { Finds (A.Bank.row self.now.first) (B.Bank.row self.now.second) place result }
     {
-        place.checked_sub(self.first.len())
+        if place >= self.len() {
+            return Err(BankFault::Outside);
+        }
+        let past = place.checked_sub(self.first.len());
+        Ok(past.map_or(Part::First(place), Part::Second))
     }
 }
 
@@ -42,28 +54,20 @@ impl<A: Bank, B: Bank> Bank for Joined<A, B> {
     ghost short = { λ s. bounded_short (A.Bank.row s.first ++ B.Bank.row s.second) };
 
     fn len(&self) -> usize {
-        let all = self.first.len() + self.second.len();
-        let fits = all <= MOST;
-        if fits { all } else { 0 }
+        bounded_len(self.first.len() + self.second.len())
     }
 
     fn get(&self, place: usize) -> Result<u8, BankFault> {
-        if place >= self.len() {
-            return Err(BankFault::Outside);
-        }
-        match self.past_first(place) {
-            None => self.first.get(place),
-            Some(rest) => self.second.get(rest),
+        match self.part(place)? {
+            Part::First(place) => self.first.get(place),
+            Part::Second(place) => self.second.get(place),
         }
     }
 
     fn put(&mut self, place: usize, byte: u8) -> Result<(), BankFault> {
-        if place >= self.len() {
-            return Err(BankFault::Outside);
-        }
-        match self.past_first(place) {
-            None => self.first.put(place, byte),
-            Some(rest) => self.second.put(rest, byte),
+        match self.part(place)? {
+            Part::First(place) => self.first.put(place, byte),
+            Part::Second(place) => self.second.put(place, byte),
         }
     }
 }

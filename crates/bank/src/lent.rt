@@ -2,7 +2,7 @@
 ghost use Rattle.std.specs.Prelude.{◌≡◌};
 ghost use Rattle.bank.specs.Rows.{bounded, bounded_short};
 
-use crate::{Bank, BankFault, MOST};
+use crate::{Bank, BankFault, row};
 
 #[derive(Drop)]
 pub struct Lent<'a> {
@@ -21,8 +21,7 @@ impl<'a> Lent<'a> {
     pub fn into_bytes(self) -> &'a mut [u8]
         ensures { result.now ≡ self.entry.bytes.now }
     {
-        let bytes = self.bytes;
-        bytes
+        self.bytes
     }
 }
 
@@ -32,23 +31,14 @@ impl<'a> Bank for Lent<'a> {
     ghost short = { λ s. bounded_short s.bytes.now };
 
     fn len(&self) -> usize {
-        let all = self.bytes.len();
-        if all <= MOST { all } else { 0 }
+        row::len(self.bytes)
     }
 
     fn get(&self, place: usize) -> Result<u8, BankFault> {
-        if place >= self.len() {
-            return Err(BankFault::Outside);
-        }
-        Ok(self.bytes[place])
+        row::get(self.bytes, place)
     }
 
     fn put(&mut self, place: usize, byte: u8) -> Result<(), BankFault> {
-        if place < self.len() {
-            self.bytes[place] = byte;
-            Ok(())
-        } else {
-            Err(BankFault::Outside)
-        }
+        row::put(self.bytes, place, byte)
     }
 }

@@ -8,6 +8,7 @@ ghost use Rattle.bank.specs.Rows.{Seams, none};
 mod joined;
 mod lent;
 mod owned;
+mod row;
 #[cfg(test)]
 mod tests;
 
@@ -15,21 +16,18 @@ pub use joined::Joined;
 pub use lent::Lent;
 pub use owned::Owned;
 
-// The most bytes that a bank has.
-const MOST: usize = 65536;
-
 // Why a bank refuses: the place is not below its length.
 #[derive(Clone, Copy, PartialEq, Eq, Debug)]
 pub enum BankFault {
-    Outside,
+    Outside = 11,
 }
 
 impl BankFault {
-    // The number by which the refusal is known.
+    // The number by which the refusal is known; a method, since `u8::from(fault)` says less where it is read.
     pub fn number(self) -> u8
         ensures { result ≡ fault_number self }
     {
-        11
+        self as u8
     }
 }
 

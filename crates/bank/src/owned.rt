@@ -2,7 +2,7 @@
 ghost use Rattle.std.specs.Prelude.{◌≡◌, replicate};
 ghost use Rattle.bank.specs.Rows.{bounded, bounded_short};
 
-use crate::{Bank, BankFault};
+use crate::{Bank, BankFault, row};
 
 #[derive(Drop)]
 pub struct Owned {
@@ -21,8 +21,7 @@ impl Owned {
     pub fn into_bytes(self) -> [u8; 512]
         ensures { result ≡ self.bytes }
     {
-        let Owned { bytes } = self;
-        bytes
+        self.bytes
     }
 }
 
@@ -32,24 +31,14 @@ impl Bank for Owned {
     ghost short = { λ s. bounded_short s.bytes };
 
     fn len(&self) -> usize {
-        // by a slice: that an array has its length is known to a proof only where it is lent
-        let all = &self.bytes[..];
-        all.len()
+        row::len(&self.bytes)
     }
 
     fn get(&self, place: usize) -> Result<u8, BankFault> {
-        if place >= self.len() {
-            return Err(BankFault::Outside);
-        }
-        Ok(self.bytes[place])
+        row::get(&self.bytes, place)
     }
 
     fn put(&mut self, place: usize, byte: u8) -> Result<(), BankFault> {
-        if place < self.len() {
-            self.bytes[place] = byte;
-            Ok(())
-        } else {
-            Err(BankFault::Outside)
-        }
+        row::put(&mut self.bytes, place, byte)
     }
 }

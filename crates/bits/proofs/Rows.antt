@@ -5,6 +5,7 @@ use native.Mathlib.Nat.{zero-div, zero-mod, add-mul-mod_self_right, suc_inj}
 use lib.Arith.{digits_lt, digits_div, digits_mod}
 use lib.Bits.{bit_or, bit_xor, or_block, or_zero_r, or_lt, or_shifted_r, xor_block, xor_zero_r, xor_lt, xor_shr, xor_mod}
 use lib.Pow.{mod-pow-add, mod-mod-pow, field, split, low, high}
+use Rattle.std.specs.Int.{w64, to_le_bytes}
 use Rattle.bits.specs.Rows.{Bytes, little, part, xored}
 
 -- a run of a run
@@ -29,7 +30,7 @@ byte_part (x ∷ xs) (suc i) h =
     ∙ ap (λ (y : ℕ). y / 2 ^ (8 * i) % 256) (digits_div (little xs) (h 0).fits) ∙ byte_part xs i (λ k. h (suc k))
 
 -- 2 to the digits of one byte more
-pow_byte : (i : ℕ) → 2 ^ (8 * suc i) ≡ 2 ^ (8 * i) * 256
+pub pow_byte : (i : ℕ) → 2 ^ (8 * suc i) ≡ 2 ^ (8 * i) * 256
 pow_byte i =
     let e : 8 * suc i ≡ 8 * i + 8 = omega arith in
     ap (λ (k : ℕ). 2 ^ k) e ∙ pow-add 2 (8 * i) 8
@@ -46,6 +47,10 @@ bytes_set (x ∷ xs) zero v h f zero = record { fits = f }
 bytes_set (x ∷ xs) zero v h f (suc k) = h (suc k)
 bytes_set (x ∷ xs) (suc i) v h f zero = h 0
 bytes_set (x ∷ xs) (suc i) v h f (suc k) = bytes_set xs i v (λ j. h (suc j)) f k
+
+-- the bytes of a number, the lowest first
+pub little_le_bytes : (n : ℕ) → n < 2 ^ 64 → little (to_le_bytes w64 n) ≡ n
+little_le_bytes n h = omega arith
 
 -- a byte ored into a row
 pub little_or : (xs : List ℕ) (i v : ℕ) → Bytes xs → i < length xs → v < 256 → little (set xs i (bit_or (get_or xs i 0) v)) ≡ bit_or (little xs) (v * 2 ^ (8 * i))

@@ -8,14 +8,7 @@ ghost use Rattle.bits.specs.Rows.{Bytes, little, part};
 fn byte_at(row: &[u8], i: usize) -> u8
     ensures { result ≡ slice_index row.now i }
 {
-    if i < row.len() { row[i] } else { 0 }
-}
-
-// The number of four bytes, the lowest first.
-fn four_bytes(a: u8, b: u8, c: u8, d: u8) -> u32
-    ensures { result ≡ ((d * 256 + c) * 256 + b) * 256 + a }
-{
-    a as u32 | (b as u32) << 8 | (c as u32) << 16 | (d as u32) << 24
+    row.get(i).copied().unwrap_or(0)
 }
 
 // The 32 binary digits from byte `i` on.
@@ -24,15 +17,15 @@ fn window(row: &[u8], i: usize) -> u32
     ensures { result ≡ part (little row.now) (8 * i) 32 }
 {
     if i + 3 < row.len() {
-        // one test for all four, which are then one load
-        return four_bytes(row[i], row[i + 1], row[i + 2], row[i + 3]);
+        // one test for all four, which are then one load; by `first_chunk` of what is left it is no plainer
+        return u32::from_le_bytes([row[i], row[i + 1], row[i + 2], row[i + 3]]);
     }
-    four_bytes(
+    u32::from_le_bytes([
         byte_at(row, i),
         byte_at(row, i + 1),
         byte_at(row, i + 2),
         byte_at(row, i + 3),
-    )
+    ])
 }
 
 // The binary digits of a row from digit `at` on, at most 24 of them; digits past the end are 0.
@@ -43,17 +36,17 @@ pub fn get_bits(row: &[u8], at: usize, width: u32) -> u32
     (window(row, at / 8) >> (at % 8)) & ((1 << count) - 1)
 }
 
-// Ors a number into a row from byte `first` on; bytes past the end are dropped.
-fn or_bytes(row: &mut [u8], first: usize, number: u64)
-    requires { Bytes row.old }
-    ensures { little row.new ≡ bit_or (little row.old) (number * 2 ^ (8 * first)) % 2 ^ (8 * length row.old) }
+// Ors bytes into a row from place `first` on; bytes past the end are dropped.
+fn or_bytes(row: &mut [u8], first: usize, bytes: &[u8])
+    requires known { Bytes row.old }
+    requires near { first + length bytes.now < 2 ^ 62 }
+    ensures { little row.new ≡ bit_or (little row.old) (little bytes.now * 2 ^ (8 * first)) % 2 ^ (8 * length row.old) }
 {
-    let mut i = first;
-    let mut rest = number;
-    while rest > 0 && i < row.len() {
-        row[i] |= (rest & 255) as u8;
-        rest >>= 8;
-        i += 1;
+    for (i, byte) in bytes.iter().enumerate() {
+        // by the index: of bytes that are written through a `zip` or a `get_mut` no proof knows the values
+        if first + i < row.len() {
+            row[first + i] |= *byte;
+        }
     }
 }
 
@@ -62,7 +55,8 @@ pub fn put_bits(row: &mut [u8], at: usize, value: u32)
     ensures long { length row.new ≡ length row.old }
     ensures ored { little row.new ≡ bit_or (little row.old) (value * 2 ^ at) % 2 ^ (8 * length row.old) }
 {
-    or_bytes(row, at / 8, (value as u64) << (at % 8));
+    let shifted = (value as u64) << (at % 8);
+    or_bytes(row, at / 8, &shifted.to_le_bytes());
 }
 
 #[cfg(test)]

@@ -1,8 +1,9 @@
-// Sealing and opening for callers in C and in Rust, at the two kinds of stick: numbers and slices of numbers go in and out.
+// Sealing and opening for callers in C and in Rust, at the two kinds of stick.
+// The C interface has numbers alone, and a function for each kind of stick.
 #![tactic(auto)]
 
-ghost use Rattle.std.specs.Prelude.{◌≡◌, length};
-ghost use Rattle.frame.specs.Code.{code};
+ghost use Rattle.std.specs.Prelude.{◌≡◌, Err, length};
+ghost use Rattle.frame.specs.Code.{code_of};
 ghost use Rattle.frame.specs.Opening.{row_opening, answer, filled};
 ghost use Rattle.frame.specs.Sticks.{code7, code17};
 ghost use Rattle.capi.specs.Answers.{accepted, told, Seals};
@@ -12,12 +13,12 @@ mod tests;
 
 use columns::{ColumnSet, RuleSet, TableSet};
 use field::{Field, Gf7, Gf17};
-use frame::{Part, Verdict, open, seal};
+use frame::{OpenFault, Part, SealFault, Verdict, open, seal};
 use salt::Noise;
 
 // What a sealing answers: 0 or the number of its refusal, and how many noise bytes are used up.
 #[repr(C)]
-#[derive(Clone, Copy)]
+#[derive(Clone, Copy, PartialEq, Eq, Debug)]
 pub struct Sealed {
     pub refusal: u8,
     pub used: usize,
@@ -26,13 +27,47 @@ pub struct Sealed {
 // What an opening answers: 0 or the number of its refusal, the salt, and the part in which a bit was put right
 // (0 none, 1 a block, 2 the mask, 3 the sum, 4 the parity bit) with its block and bit.
 #[repr(C)]
-#[derive(Clone, Copy)]
+#[derive(Clone, Copy, PartialEq, Eq, Debug, Default)]
 pub struct Opened {
     pub refusal: u8,
     pub part: u8,
     pub block: u32,
     pub bit: u32,
     pub salt: u32,
+}
+
+// A frame that opens.
+impl From<(Verdict, u32)> for Opened {
+    ghost from_gives = { λ answer opened. opened ≡ accepted answer.0 answer.1 };
+
+    fn from((verdict, salt): (Verdict, u32)) -> Opened {
+        let (part, block, bit) = match verdict {
+            Verdict::Clean => (0, 0, 0),
+            Verdict::Mended(Part::Block(j, t)) => (1, j, t),
+            Verdict::Mended(Part::Mask(t)) => (2, 0, t),
+            Verdict::Mended(Part::Sum(t)) => (3, 0, t),
+            Verdict::Mended(Part::Parity) => (4, 0, 0),
+        };
+        Opened {
+            refusal: 0,
+            part,
+            block,
+            bit,
+            salt,
+        }
+    }
+}
+
+// A frame that is refused.
+impl From<OpenFault> for Opened {
+    ghost from_gives = { λ fault opened. opened ≡ told (Err fault) };
+
+    fn from(fault: OpenFault) -> Opened {
+        Opened {
+            refusal: fault.number(),
+            ..Opened::default()
+        }
+    }
 }
 
 // Draws a salt from the noise and seals the word with it.
@@ -42,60 +77,26 @@ fn seal_drawn<F: Field, C: ColumnSet>(
     noise: &[u8],
     frame: &mut [u8],
 ) -> Sealed
-    ensures { Seals (code F.m F.mul (C.columns set.now) (C.height set.now)) word.now noise.now frame.old result frame.new }
+    ensures { Seals (code_of F.Field C.ColumnSet set.now) word.now noise.now frame.old result frame.new }
 {
     let mut source = Noise::new(noise);
-    let drawn = source.draw::<F>(word.len());
-    let used = source.place();
-    let salt = match drawn {
-        Ok(salt) => salt,
-        Err(fault) => {
-            let refusal = fault.number();
-            return Sealed { refusal, used };
-        }
+    // a match, since no proof learns what `and_then`'s closure would leave in the frame that it captures
+    let sealed = match source.draw::<F>(word.len()) {
+        Ok(salt) => seal::<F, C>(set, word, salt, frame).map_err(SealFault::number),
+        Err(fault) => Err(fault.number()),
     };
-    let refusal = match seal::<F, C>(set, word, salt, frame) {
-        Ok(()) => 0,
-        Err(fault) => fault.number(),
-    };
-    Sealed { refusal, used }
-}
-
-// The numbers of a frame that opens.
-fn in_numbers(verdict: Verdict, salt: u32) -> Opened
-    ensures { result ≡ accepted verdict salt }
-{
-    let (part, block, bit) = match verdict {
-        Verdict::Clean => (0, 0, 0),
-        Verdict::Mended(Part::Block(j, t)) => (1, j, t),
-        Verdict::Mended(Part::Mask(t)) => (2, 0, t),
-        Verdict::Mended(Part::Sum(t)) => (3, 0, t),
-        Verdict::Mended(Part::Parity) => (4, 0, 0),
-    };
-    Opened {
-        refusal: 0,
-        part,
-        block,
-        bit,
-        salt,
+    Sealed {
+        refusal: sealed.err().unwrap_or(0),
+        used: source.place(),
     }
 }
 
 // Opens a frame into the word's places, and tells the answer in numbers.
 fn open_told<F: Field, C: ColumnSet>(set: &C, frame: &[u8], word: &mut [u32]) -> Opened
-    ensures answer { result ≡ told (answer (row_opening (code F.m F.mul (C.columns set.now) (C.height set.now)) (length word.old) frame.now)) }
-    ensures word { word.new ≡ filled (row_opening (code F.m F.mul (C.columns set.now) (C.height set.now)) (length word.old) frame.now) word.old }
+    ensures answer { result ≡ told (answer (row_opening (code_of F.Field C.ColumnSet set.now) (length word.old) frame.now)) }
+    ensures word { word.new ≡ filled (row_opening (code_of F.Field C.ColumnSet set.now) (length word.old) frame.now) word.old }
 {
-    match open::<F, C>(set, frame, word) {
-        Ok((verdict, salt)) => in_numbers(verdict, salt),
-        Err(fault) => Opened {
-            refusal: fault.number(),
-            part: 0,
-            block: 0,
-            bit: 0,
-            salt: 0,
-        },
-    }
+    open::<F, C>(set, frame, word).map_or_else(Opened::from, Opened::from)
 }
 
 // Seals a word of 7-bit blocks, as many as it has, with the first admitted salt of the noise. A refusal leaves the frame as it was.

@@ -84,3 +84,7 @@ table_passes = refl
 pub rule_passes : lawful 5 (non_powers 17) ≡ true
 unfolding absent plain lawful non_powers
 rule_passes = refl
+
+pub rule_counted : length (non_powers 17) ≡ 17
+unfolding non_powers
+rule_counted = refl

@@ -4,6 +4,7 @@
 ghost use Rattle.std.specs.Prelude.{◌≡◌, ℕ, List, length, slice_index};
 ghost use Rattle.columns.specs.Columns.{Laws};
 
+mod listed;
 mod rule;
 mod search;
 mod sum;
@@ -11,6 +12,7 @@ mod table;
 #[cfg(test)]
 mod tests;
 
+pub use listed::Listed;
 pub use rule::RuleSet;
 pub use search::find;
 pub use sum::column_sum;

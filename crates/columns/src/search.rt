@@ -9,10 +9,5 @@ pub fn find<C: ColumnSet>(set: &C, syndrome: u32) -> Option<u32>
     ensures answer { MatchOption result ((t : ℕ) → HasColumn (C.columns set.now) t syndrome → ⊥) (λ t. HasColumn (C.columns set.now) t syndrome) }
     ensures only { (t : ℕ) → HasColumn (C.columns set.now) t syndrome → result ≡ Some t }
 {
-    for bit in 0..set.count() {
-        if set.column(bit) == syndrome {
-            return Some(bit);
-        }
-    }
-    None
+    (0..set.count()).find(|bit| set.column(*bit) == syndrome)
 }

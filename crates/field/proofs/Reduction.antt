@@ -1,19 +1,17 @@
 -- The shifting product: a sum of shifted copies, reduced after.
 -- Assumes nothing.
-use Rattle.std.proofs.Common.{◌≡◌, ℕ, suc, ◌+◌, ◌-◌, ◌*◌, ◌/◌, ◌%◌, ◌^◌, ◌<◌, ◌≤◌, eqb, ltb, sym, refl, ap, ◌∙◌, ap₂, lt_of_le_of_lt, mul_assoc, mul-one, le-mul_of_pos_right, div-one, mul_left_comm, one-add, arith, pow_pos, pow-add, shl_lt, shr-shr}
+use Rattle.std.proofs.Common.{◌≡◌, ℕ, suc, ◌+◌, ◌-◌, ◌*◌, ◌/◌, ◌%◌, ◌^◌, ◌<◌, ◌≤◌, eqb, ltb, sym, refl, ap, ◌∙◌, ap₂, lt_of_le_of_lt, mul_assoc, le-mul_of_pos_right, mul_left_comm, one-add, arith, pow_pos, pow-add, shl_lt, shr-shr}
 use lib.Bits.{bit_xor, bit_and, and_high, xor_mod, xor_shr}
 use Rattle.std.proofs.lemmas.Bool.{eqb-true, ltb-true}
 use Rattle.bits.proofs.Digits.{xor_middle, linear_agree, linear_lt}
 use Rattle.field.specs.Ring.{xor_shl, times_z_linear, orbit_through}
 use Rattle.field.specs.Computed.{all, all_at}
+use Rattle.field.specs.Widths.{laws17}
 use Rattle.field.specs.Products.{times_z, product, plain_product, fold}
 
 -- digit i of y, in its place
 one_digit : (y i : ℕ) → bit_and y (2 ^ i) ≡ y / 2 ^ i % 2 * 2 ^ i
 one_digit y i = let bit : 2 ^ (1 + i) - 2 ^ i ≡ 2 ^ i = omega (arith, pow-add 2 1 i) in ap (bit_and y) (sym bit) ∙ and_high y 1 i
-
-pub plain_whole : (k x y : ℕ) → plain_product k (x * 1) (y / 1) ≡ plain_product k x y
-plain_whole k x y = ap₂ (plain_product k) (mul-one x) (div-one y)
 
 pub plain_done : (k i x y : ℕ) → k ≤ i → plain_product (k - i) x y ≡ 0
 unfolding plain_product
@@ -74,3 +72,6 @@ reduced17 x y hx =
     (λ i hi. eqb-true _ _ (all_at 34 (λ j. eqb (twice17 (2 ^ j * 2)) (times_z 16 131081 (twice17 (2 ^ j)))) refl i hi))
     (λ i hi. eqb-true _ _ (all_at 17 (λ j. eqb (twice17 (2 ^ j)) (2 ^ j)) refl i hi))
     x y hx (shl_lt 17 17 hx)
+
+pub reduced_lt17 : (x y : ℕ) → x < 2 ^ 17 → y < 2 ^ 17 → fold 17 3 (fold 17 3 (plain_product 17 x y)) < 2 ^ 17
+reduced_lt17 x y hx hy = rw (reduced17 x y hx) (laws17.closed x y hx hy)

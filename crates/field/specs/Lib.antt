@@ -1,4 +1,5 @@
 pub mod Computed
+pub mod Fields
 pub mod Inverses
 pub mod Laws
 pub mod Polynomials

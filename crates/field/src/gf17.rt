@@ -1,54 +1,28 @@
 // The field of width 17: polynomials modulo z^17 + z^3 + 1, multiplied by shifting.
-ghost use Rattle.std.specs.Prelude.{◌≡◌, ◌%◌, ◌^◌, ◌<◌};
-ghost use Rattle.std.proofs.Common.{mod-lt, pow_pos, rules};
-ghost use Rattle.field.specs.Products.{product, plain_product, fold};
+ghost use Rattle.std.specs.Prelude.{◌≡◌, ◌^◌, ◌<◌};
+ghost use Rattle.field.specs.Fields.{product17};
+ghost use Rattle.field.specs.Products.{plain_product, fold};
 ghost use Rattle.field.specs.Widths.{laws17};
-ghost use Rattle.field.specs.Elements.{same_value};
 
-use crate::Field;
+use crate::binary::{Binary, Product};
 use crate::elem::Elem;
 
 // The field of 2^17 elements.
-pub struct Gf17;
+pub type Gf17 = Binary<17, ByShifts>;
 
-impl Field for Gf17 {
-    type Elem = Elem<17>;
+// The product by shifting.
+pub struct ByShifts;
 
-    const WIDTH: u32 = 17;
-
-    ghost m = { 17 };
-
-    ghost mul = { product 16 131081 };
+impl Product<17> for ByShifts {
+    ghost mul = { product17 };
 
     ghost laws = { laws17 };
 
-    ghost number = { λ x. x.value };
-
-    ghost numbered = { λ n. record { value = n % 2 ^ 17; small = mod-lt n (pow_pos 17) } };
-
-    ghost small = { Prim.search rules };
-
-    ghost apart = { same_value 17 };
-
-    ghost each = { Prim.search rules };
-
-    fn degree() -> u32 {
-        Self::WIDTH
-    }
-
-    fn element(n: u32) -> Option<Elem<17>> {
-        Elem::new(n)
-    }
-
-    fn number_of(x: Elem<17>) -> u32 {
-        x.value
-    }
-
-    fn add(x: Elem<17>, y: Elem<17>) -> Elem<17> {
-        x.plus(y)
-    }
-
-    fn multiply(x: Elem<17>, y: Elem<17>) -> Elem<17> {
+    // the trait's clause is said again: an impl of a trait with a const argument does not take it
+    #[tactic(auto, using(crate::proofs::Reduction::reduced17, crate::proofs::Reduction::reduced_lt17))]
+    fn multiply(x: Elem<17>, y: Elem<17>) -> Elem<17>
+        ensures { result.value ≡ product17 x.value y.value }
+    {
         let long = shifted_sum(x.value as u64, y.value as u64);
         // 33 digits fold to 19, and 19 to 17.
         Elem {
@@ -62,6 +36,7 @@ fn shifted_sum(x: u64, y: u64) -> u64
     requires { (x < 2 ^ 17) × (y < 2 ^ 17) }
     ensures { result ≡ plain_product 17 x y }
 {
+    // as a fold it is no plainer: the closure would owe the bounds of its product
     let mut sum = 0;
     for i in 0u32..17 {
         // A multiplication by a power of two or by 0 is a shift with no branch.

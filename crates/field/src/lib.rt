@@ -4,6 +4,7 @@
 ghost use Rattle.std.specs.Prelude.{◌≡◌, ℕ, ◌^◌, ◌<◌, ◌≤◌, MatchOption, bit_xor};
 ghost use Rattle.field.specs.Laws.{Laws};
 
+mod binary;
 mod elem;
 mod gf17;
 mod gf7;
@@ -11,37 +12,39 @@ mod polynomial;
 #[cfg(test)]
 mod tests;
 
+pub use binary::{Binary, Product};
 pub use elem::Elem;
-pub use gf7::Gf7;
-pub use gf17::Gf17;
+pub use gf7::{ByTables, Gf7};
+pub use gf17::{ByShifts, Gf17};
 pub use polynomial::evaluate;
 
-// A field of width m: each element has one number below 2^m, and each such number one element.
+// A field of width m, the constant WIDTH: each element has one number below 2^m, and each such number one element.
 pub trait Field {
     type Elem: Copy;
 
     const WIDTH: u32;
 
-    // the width
-    ghost m: { ℕ };
+    ghost WIDTH: { ℕ };
 
     // the product, on the numbers of elements; the sum is the exclusive-or
     ghost mul: { ℕ → ℕ → ℕ };
 
-    ghost laws: { Laws m mul };
+    ghost laws: { Laws WIDTH mul };
 
     // the number of an element, and the element with a number
     ghost number: { Self.Elem → ℕ };
 
     ghost numbered: { ℕ → Self.Elem };
 
-    // The width m, which each field answers from its `WIDTH`: no clause can name that in generic code.
     fn degree() -> u32
-        ensures { result ≡ m };
+        ensures { result ≡ WIDTH }
+    {
+        Self::WIDTH
+    }
 
     // The element with the number n; a number of 2^m or more gives none.
     fn element(n: u32) -> Option<Self::Elem>
-        ensures { MatchOption result (2 ^ m ≤ n) (λ x. number x ≡ n) };
+        ensures { MatchOption result (2 ^ WIDTH ≤ n) (λ x. number x ≡ n) };
 
     fn number_of(x: Self::Elem) -> u32
         ensures { result ≡ number x };
@@ -52,9 +55,9 @@ pub trait Field {
     fn multiply(x: Self::Elem, y: Self::Elem) -> Self::Elem
         ensures { number result ≡ mul (number x) (number y) };
 
-    ghost small: { (x : Self.Elem) → number x < 2 ^ m };
+    ghost small: { (x : Self.Elem) → number x < 2 ^ WIDTH };
 
     ghost apart: { (x y : Self.Elem) → number x ≡ number y → x ≡ y };
 
-    ghost each: { (n : ℕ) → n < 2 ^ m → number (numbered n) ≡ n };
+    ghost each: { (n : ℕ) → n < 2 ^ WIDTH → number (numbered n) ≡ n };
 }

@@ -8,12 +8,12 @@ use crate::Field;
 // Promised of the field with it: a polynomial with as many different roots as coefficients is zero in all of these.
 pub fn evaluate<F: Field>(coefficients: &[F::Elem], x: F::Elem) -> F::Elem
     ensures value { F.number result ≡ value_at F.mul (map F.number coefficients.now) (F.number x) }
-    ensures roots { Roots F.m F.mul }
+    ensures roots { Roots F.WIDTH F.mul }
 {
     // An element added to itself is 0.
-    let mut sum = F::add(x, x);
-    for i in (0..coefficients.len()).rev() {
-        sum = F::add(coefficients[i], F::multiply(x, sum));
-    }
-    sum
+    let zero = F::add(x, x);
+    coefficients
+        .iter()
+        .rev()
+        .fold(zero, |sum, c| F::add(*c, F::multiply(x, sum)))
 }

@@ -13,11 +13,11 @@ use Rattle.field.specs.Powers.{power}
 use Rattle.field.specs.Polynomials.{value_at}
 use Rattle.field.proofs.Powers.{mul-one, power_lt}
 use Rattle.field.proofs.Roots.{roots}
-use Rattle.frame.specs.Checks.{terms, weight, check_value}
+use Rattle.frame.specs.Checks.{Below, terms, weight, check_value}
 use Rattle.frame.proofs.AtMost.{AtMost, stronger}
 use Rattle.frame.proofs.Differences.{Ring, Poly, lower, plus, constant, all_terms, even_lower, value_push, small_xored, difference, xor_left}
 use Rattle.frame.proofs.Sealed.{xor_back}
-use Rattle.frame.proofs.Values.{Below, horner, horner_terms}
+use Rattle.frame.proofs.Values.{horner, horner_terms}
 
 -- a is an element, and the check value of zs with the salt a changed by d is that of ys with a, changed by e
 abbrev pub Passes : ℕ → (ℕ → ℕ → ℕ) → List ℕ → List ℕ → ℕ → ℕ → ℕ → Type 0

@@ -1,6 +1,6 @@
 -- The tests of an opening, one by one, and the outcome that they lead to.
 -- Assumes nothing.
-use Rattle.std.proofs.Common.{◌≡◌, ℕ, suc, ◌%◌, ◌^◌, ◌<◌, Bool, true, false, cond, eqb, List, length, get_or, Some, None, Ok, Err, Option, sym, refl, ap, ◌∙◌, ⊎_elim, arith, eq-eqb, ne_eqb}
+use Rattle.std.proofs.Common.{◌≡◌, ℕ, suc, ◌%◌, ◌^◌, ◌<◌, Bool, true, false, cond, eqb, List, length, get_or, Some, None, Ok, Err, sym, refl, ap, ◌∙◌, ⊎_elim, arith, eq-eqb, ne_eqb}
 use lib.Bits.{bit_xor, xor_self, xor_assoc, xor_zero_l}
 use lib.Count.{ones}
 use Rattle.std.proofs.lemmas.Bool.{cond-true, cond-false, cases_eq}
@@ -9,15 +9,14 @@ use Rattle.field.specs.Laws.{Laws}
 use Rattle.field.specs.Powers.{power}
 use Rattle.salt.specs.Admitted.{admitted}
 use Rattle.columns.specs.Columns as Columns
-use Rattle.frame.specs.Checks.{check_value}
+use Rattle.frame.specs.Checks.{Below, check_value}
 use Rattle.frame.specs.Code.{Code, frame_bits, word, check}
-use Rattle.frame.specs.Opening.{Outcome, clean, mended, refused, first, flipped, raw_salt, syndrome, opening_even, opening_odd, opening, judged, beside_hit, answer, filled}
+use Rattle.frame.specs.Opening.{Outcome, clean, mended, refused, first, flipped, raw_salt, syndrome, opening_even, opening_odd, opening, judged, answer, filled}
 use Rattle.frame.proofs.First.{first_hit, first_miss, first_same}
-use Rattle.frame.proofs.Values.{Below, value_flipped}
+use Rattle.frame.proofs.Values.{value_flipped}
 use Rattle.frame.specs.declared.verdict.Part.{Part}
-use Rattle.frame.specs.declared.verdict.Verdict.{Verdict}
 use Rattle.frame.specs.declared.verdict.OpenFault.{OpenFault}
-use Rattle.frame.specs.declared.verdict.OpenFault.TheVariants.{Salt, Even, Unmended}
+use Rattle.frame.specs.declared.verdict.OpenFault.TheVariants.{Even}
 
 -- a test that refuses
 pub tested_ok : (t : Bool) (v d : ℕ) (e : OpenFault) → Ok d ≡ cond t (Ok v) (Err e) → (t ≡ true) × (d ≡ v)
@@ -75,26 +74,6 @@ column_found cs r t s laws inside is =
 pub column_missing : (cs : List ℕ) (s : ℕ) → ((t : ℕ) → (t < length cs) × (get_or cs t 0 ≡ s) → ⊥) → first (λ k. eqb (get_or cs k 0) s) 0 (length cs) ≡ None
 column_missing cs s none = first_miss (λ k. eqb (get_or cs k 0) s) (length cs) (λ k h. ne_eqb _ s (λ same. none k (h, same)))
 
--- an even frame leaves the stored word as it is
-keeps : (zero-gap fit same : Bool) (ys : List ℕ) (a : ℕ) → filled (cond zero-gap (cond fit (cond same (clean ys a) (refused Even)) (refused Salt)) (refused Even)) ys ≡ ys
-keeps true true true ys a = refl
-keeps true true false ys a = refl
-keeps true false same ys a = refl
-keeps false fit same ys a = refl
-
-pub even_keeps : (m : ℕ) (mul : ℕ → ℕ → ℕ) (ys : List ℕ) (a c s : ℕ) → filled (opening_even m mul ys a c s) ys ≡ ys
-even_keeps m mul ys a c s = keeps (eqb s 0) (admitted m mul (length ys) a) (eqb (check_value mul ys a) c) ys a
-
--- and so does a flip beside the word
-judged_keeps : (fit same : Bool) (part : Part) (ys : List ℕ) (a : ℕ) → filled (cond fit (cond same (mended part ys a) (refused Unmended)) (refused Salt)) ys ≡ ys
-judged_keeps true true part ys a = refl
-judged_keeps true false part ys a = refl
-judged_keeps false same part ys a = refl
-
-pub beside_keeps : (m : ℕ) (mul : ℕ → ℕ → ℕ) (ys : List ℕ) (a c : ℕ) (part : Option Part) → filled (beside_hit m mul ys a c part) ys ≡ ys
-beside_keeps m mul ys a c None = refl
-beside_keeps m mul ys a c (Some part) = judged_keeps (admitted m mul (length ys) a) (eqb (check_value mul ys a) c) part ys a
-
 module _ (K : Code) (b N : ℕ) (ys : List ℕ) (a c s n : ℕ) (blocks : ys ≡ word K b N) (raw : a ≡ raw_salt K b N) (stored : c ≡ check K b N) (gap : s ≡ syndrome K b N) (counted : n ≡ ones (N % 2 ^ frame_bits K b)) where
   pub opens_even : n % 2 ≡ 0 → opening_even K.m K.mul ys a c s ≡ opening K b N
   opens_even even = (λ i. opening_even K.m K.mul (blocks i) (raw i) (stored i) (gap i)) ∙ sym (cond-true _ _ _ (eq-eqb _ 0 (ap (λ x. x % 2) (sym counted) ∙ even)))
@@ -102,12 +81,7 @@ module _ (K : Code) (b N : ℕ) (ys : List ℕ) (a c s n : ℕ) (blocks : ys ≡
   pub opens_odd : (n % 2 ≡ 0 → ⊥) → opening_odd K ys a c s ≡ opening K b N
   opens_odd odd = (λ i. opening_odd K (blocks i) (raw i) (stored i) (gap i)) ∙ sym (cond-false _ _ _ (ne_eqb _ 0 (λ e. odd (ap (λ x. x % 2) counted ∙ e))))
 
--- an outcome fills the row with its word, or leaves it
-pub filled_ok : (o : Outcome) (v : Verdict × ℕ) (us ws : List ℕ) → Ok v ≡ answer o → filled o us ≡ filled o ws
-filled_ok (clean ys a) v us ws is = refl
-filled_ok (mended part ys a) v us ws is = refl
-filled_ok (refused fault) v us ws is = let z : ◌≡◌ {A = ℕ} 0 1 = cc in absurd (omega arith)
-
+-- a refused frame leaves the row as it was
 pub filled_err : (o : Outcome) (f : OpenFault) (us : List ℕ) → Err f ≡ answer o → filled o us ≡ us
 filled_err (clean ys a) f us is = let z : ◌≡◌ {A = ℕ} 0 1 = cc in absurd (omega arith)
 filled_err (mended part ys a) f us is = let z : ◌≡◌ {A = ℕ} 0 1 = cc in absurd (omega arith)

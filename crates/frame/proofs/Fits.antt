@@ -1,9 +1,9 @@
 -- What it means that a field and a column set fit.
 -- Assumes nothing.
-use Rattle.std.proofs.Common.{◌≡◌, ℕ, ◌≤◌, Bool, true, false, cond, ◌&&◌, eqb, List, length, Some, None, refl, ◌∙◌, arith, eq-eqb, eqb-true, leb-true}
+use Rattle.std.proofs.Common.{◌≡◌, ℕ, ◌≤◌, true, ◌&&◌, eqb, List, length, ◌∙◌, eq-eqb, eqb-true, leb-true}
 use Rattle.std.proofs.lemmas.Bool.{and_parts, and_from, cond-true}
 use Rattle.bits.specs.Rows.{little}
-use Rattle.frame.specs.Code.{Code, fits, sized, frame_bytes, frame_length}
+use Rattle.frame.specs.Code.{Code, fits, sized, frame_bytes}
 use Rattle.frame.specs.Opening.{opening, row_opening}
 
 pub record Fit (K : Code) : Type 0 where
@@ -26,14 +26,6 @@ fit_parts K h =
       high = leb-true 3 K.r upto-low.1;
       low = leb-true K.r 8 upto-high.1;
     }
-
--- there is a frame of b blocks only where the code fits and b keeps its limits
-pub length_parts : (K : Code) (b n : ℕ) → Some n ≡ frame_length K b → ((fits K ≡ true) × (sized b ≡ true)) × (n ≡ frame_bytes K b)
-length_parts K b n is = let h = from_some (fits K && sized b) (frame_bytes K b) n is in (and_parts (fits K) (sized b) h.0, h.1)
-  where
-    from_some : (t : Bool) (v n : ℕ) → Some n ≡ cond t (Some v) None → (t ≡ true) × (n ≡ v)
-    from_some true v n is = (refl, cc)
-    from_some false v n is = let z : ◌≡◌ {A = ℕ} 0 1 = cc in absurd (omega arith)
 
 pub sized_parts : (b : ℕ) → sized b ≡ true → (1 ≤ b) × (b ≤ 16)
 sized_parts b h = let both = and_parts _ _ h in (leb-true 1 b both.0, leb-true b 16 both.1)

@@ -9,10 +9,11 @@ pub mod First
 pub mod Fits
 pub mod Flips
 pub mod Hits
+pub mod Mendable
 pub mod OneFlip
+pub mod Righted
 pub mod Salts
 pub mod Sealed
-pub mod Mendable
 pub mod Sealings
 pub mod SetBits
 pub mod Stacked

@@ -10,7 +10,7 @@ use Rattle.std.proofs.lemmas.Bool.{and_parts, cond_both, cases_eq, cases_lt}
 use Rattle.bits.specs.Rows.{little, part}
 use Rattle.salt.specs.Admitted.{admitted}
 use Rattle.frame.specs.Code.{Code, fits, sized, frame_bits, frame_bytes, word, check}
-use Rattle.frame.specs.Checks.{check_value}
+use Rattle.frame.specs.Checks.{Below, check_value}
 use Rattle.frame.specs.Opening.{Outcome, clean, mended, refused, first, flipped, judged, in_block, beside, beside_hit, by_column, raw_salt, syndrome, opening_even, opening_odd, opening, row_opening, answer, filled}
 use Rattle.frame.specs.Renewal.{renewed}
 use Rattle.frame.specs.declared.verdict.Part.{Part}
@@ -21,7 +21,7 @@ use Rattle.frame.specs.declared.verdict.Verdict.{Verdict}
 use Rattle.frame.specs.declared.verdict.Verdict.TheVariants.{Clean, Mended}
 use Rattle.frame.proofs.First.{first_inside}
 use Rattle.frame.proofs.Fits.{fit_parts}
-use Rattle.frame.proofs.Values.{Below, places_below}
+use Rattle.frame.proofs.Values.{places_below}
 
 -- a word of b blocks below 2 ^ m, and a salt that is admitted for it
 pub record Good (m : ℕ) (mul : ℕ → ℕ → ℕ) (b : ℕ) (ys : List ℕ) (a : ℕ) : Type 0 where

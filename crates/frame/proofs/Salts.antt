@@ -13,7 +13,7 @@ use Rattle.field.specs.Laws.{Laws}
 use Rattle.salt.specs.Admitted.{admitted}
 use Rattle.salt.proofs.Admitted.{admitted_lt}
 use Rattle.columns.specs.Columns as Columns
-use Rattle.frame.specs.Checks.{weight, check_value}
+use Rattle.frame.specs.Checks.{Below, weight, check_value}
 use Rattle.frame.specs.Code.{Code, frame_bits, word, check}
 use Rattle.frame.specs.Opening.{Outcome, clean, mended, refused, raw_salt, syndrome, first, flipped, opening}
 use Rattle.frame.specs.Opening.{judged, in_block, bit_hit, beside, beside_hit, by_column, opening_even, opening_odd}
@@ -27,7 +27,7 @@ use Rattle.frame.proofs.Decisions.{even_syndrome}
 use Rattle.frame.proofs.Differences.{small_xored}
 use Rattle.frame.proofs.Fits.{fit_parts}
 use Rattle.frame.proofs.Sealed.{xor_all_lt, struck_parts}
-use Rattle.frame.proofs.Values.{Below, places_below}
+use Rattle.frame.proofs.Values.{places_below}
 
 -- what is found first passes, and is one of those that were tried
 first_passes : (test : ℕ → Bool) (i n k : ℕ) → first test i n ≡ Some k → (k < i + n) × (test k ≡ true)

@@ -16,12 +16,12 @@ use Rattle.field.proofs.Powers.{power_lt}
 use Rattle.salt.proofs.Admitted.{admitted_lt}
 use Rattle.columns.specs.Columns as Columns
 use Rattle.frame.specs.Code.{Code, frame_bits, word, mask, sum, check}
-use Rattle.frame.specs.Checks.{xor_all, weight, terms, check_value}
+use Rattle.frame.specs.Checks.{Below, xor_all, weight, terms, check_value}
 use Rattle.frame.specs.Opening.{raw_salt, syndrome}
 use Rattle.frame.specs.Sealing.{stacked, body, sealing}
 use Rattle.frame.specs.Promises.{Sealable}
 use Rattle.frame.proofs.Counts.{ones_bit}
-use Rattle.frame.proofs.Values.{Below, horner, horner_terms}
+use Rattle.frame.proofs.Values.{horner, horner_terms}
 use Rattle.frame.proofs.AnyFrame.{apart, word_xor, raw_xor, syndrome_xor}
 
 -- digits above the a digits of n, and these

@@ -1,18 +1,17 @@
 -- What a sealing that is not refused rests on, and the bytes of its frame.
 -- Assumes nothing.
-use Rattle.std.proofs.Common.{◌≡◌, ℕ, zero, suc, ◌+◌, ◌*◌, ◌/◌, ◌%◌, ◌^◌, ◌<◌, Bool, true, false, cond, ◌&&◌, eqb, ltb, List, [], ◌∷◌, length, Ok, Err, Result, sym, refl, ap, ◌∙◌, subst, ap₂, mod-lt, arith, pow_pos, shr_lt, ltb-true, eqb-true}
+use Rattle.std.proofs.Common.{◌≡◌, ℕ, zero, suc, ◌+◌, ◌*◌, ◌/◌, ◌%◌, ◌^◌, ◌<◌, Bool, true, false, cond, ◌&&◌, eqb, ltb, List, [], ◌∷◌, length, Ok, Err, sym, refl, ap, ◌∙◌, subst, ap₂, mod-lt, arith, pow_pos, shr_lt, ltb-true, eqb-true}
 use lib.Arith.{digits_div, digits_mod, lt-one}
 use lib.Pow.{split}
 use Rattle.std.proofs.lemmas.Bool.{and_parts}
 use Rattle.bits.specs.Rows.{Bytes, little}
 use Rattle.salt.specs.Admitted.{admitted}
+use Rattle.frame.specs.Checks.{Below}
 use Rattle.frame.specs.Code.{Code, fits, sized, frame_bytes}
-use Rattle.frame.specs.Sealing.{all_below, bytes_of, sealing, row_sealing, seal_answer, sealed_row}
-use Rattle.frame.specs.declared.verdict.SealFault.{SealFault}
+use Rattle.frame.specs.Sealing.{all_below, bytes_of, sealing, row_sealing, seal_answer}
 use Rattle.frame.specs.declared.verdict.SealFault.TheVariants.{Unfit, Size, Block, Salt}
-use Rattle.frame.proofs.Values.{Below}
 
-below : (m : ℕ) (ys : List ℕ) → all_below m ys ≡ true → Below m ys
+pub below : (m : ℕ) (ys : List ℕ) → all_below m ys ≡ true → Below m ys
 below m [] h i = pow_pos m
 below m (y ∷ ys) h zero = ltb-true y (2 ^ m) (and_parts _ _ h).0
 below m (y ∷ ys) h (suc i) = below m ys (and_parts (ltb y (2 ^ m)) (all_below m ys) h).1 i
@@ -49,11 +48,6 @@ sealing_passes K ys a bytes answered =
       salt = tests.1.1;
       is = passed (fits K) (sized (length ys) && eqb bytes (frame_bytes K (length ys))) (all_below K.m ys) (admitted K.m K.mul (length ys) a) (sealing K ys a) tests;
     }
-
--- a refusal leaves the row
-pub sealed_refused : (s : Result ℕ SealFault) (f : SealFault) (row : List ℕ) → Err f ≡ seal_answer s → sealed_row s row ≡ row
-sealed_refused (Ok N) f row is = let z : ◌≡◌ {A = ℕ} 0 1 = cc in absurd (omega arith)
-sealed_refused (Err e) f row is = refl
 
 -- a row of bytes is that of its number
 pub bytes_little : (xs : List ℕ) → Bytes xs → bytes_of (length xs) (little xs) ≡ xs

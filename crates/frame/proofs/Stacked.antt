@@ -5,9 +5,8 @@ use lib.Arith.{digits_lt}
 use lib.Bits.{bit_or}
 use lib.Count.{ones, ones_cat}
 use Rattle.bits.proofs.Rows.{or_fresh, put_lt}
-use Rattle.frame.specs.Checks.{all_ones}
+use Rattle.frame.specs.Checks.{Below, all_ones}
 use Rattle.frame.specs.Sealing.{stacked, with_parity}
-use Rattle.frame.proofs.Values.{Below}
 
 one_more : (m n : ℕ) → 2 ^ (suc n * m) ≡ 2 ^ (n * m) * 2 ^ m
 one_more m n = ap (λ e. 2 ^ e) (suc-mul n m) ∙ pow-add 2 (n * m) m

@@ -1,6 +1,6 @@
 -- The check value in a field: by Horner's rule.
 -- Assumes nothing.
-use Rattle.std.proofs.Common.{◌≡◌, ℕ, zero, suc, ◌+◌, ◌*◌, ◌/◌, ◌^◌, ◌<◌, ◌≤◌, List, [], ◌∷◌, length, get_or, take, set, sym, ap, ◌∙◌, subst, ap₂, ⊎_elim, add-zero, add-suc, mod-lt, suc-add, one-add, arith, length-set, length-take, get_or-take, pow_pos}
+use Rattle.std.proofs.Common.{◌≡◌, ℕ, zero, suc, ◌+◌, ◌*◌, ◌/◌, ◌^◌, ◌<◌, ◌≤◌, List, [], ◌∷◌, ◌++◌, length, refl, get_or, take, set, sym, ap, ◌∙◌, subst, ap₂, ⊎_elim, add-zero, add-suc, mod-lt, suc-add, one-add, arith, length-set, length-take, get_or-take, pow_pos}
 use lib.Bits.{bit_xor, xor_lt, xor_assoc, xor_comm}
 use lib.Pow.{pow-lt}
 use Rattle.std.proofs.lemmas.List.FromFn.{length-map-range_with_len, get_or-map-range_with_len}
@@ -11,7 +11,7 @@ use Rattle.field.specs.Laws.{Laws}
 use Rattle.field.specs.Powers.{power}
 use Rattle.field.proofs.Powers.{mul_zero, mul-one, power_lt}
 use Rattle.field.proofs.Roots.{mul_left_xor}
-use Rattle.frame.specs.Checks.{terms, weight, check_value}
+use Rattle.frame.specs.Checks.{Below, terms, weight, check_value}
 use Rattle.frame.specs.Code.{places}
 use Rattle.frame.specs.Opening.{flipped}
 
@@ -20,9 +20,15 @@ abbrev pub horner : (ℕ → ℕ → ℕ) → ℕ → List ℕ → ℕ → ℕ
 horner mul a [] t = t
 horner mul a (y ∷ ys) t = mul a (bit_xor y (horner mul a ys t))
 
--- each block is an element
-abbrev pub Below : ℕ → List ℕ → Type 0
-Below m ys = (i : ℕ) → get_or ys i 0 < 2 ^ m
+-- one block more above the others
+pub horner_push : (mul : ℕ → ℕ → ℕ) (a : ℕ) (ys : List ℕ) (y t : ℕ) → horner mul a (ys ++ y ∷ []) t ≡ horner mul a ys (mul a (bit_xor y t))
+horner_push mul a [] y t = refl
+horner_push mul a (z ∷ ys) y t = ap (λ x. mul a (bit_xor z x)) (horner_push mul a ys y t)
+
+-- with no blocks
+pub horner_none : (mul : ℕ → ℕ → ℕ) (a : ℕ) (ys : List ℕ) (t : ℕ) → length ys ≡ 0 → t ≡ horner mul a ys t
+horner_none mul a [] t none = refl
+horner_none mul a (y ∷ ys) t none = absurd (omega arith)
 
 pub below_take : (m n : ℕ) (ys : List ℕ) → Below m ys → Below m (take n ys)
 below_take m n ys h i =

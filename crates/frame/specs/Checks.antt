@@ -1,7 +1,11 @@
 -- What guards a word and its salt: the check value, and the exclusive-or that the mask is made of.
 -- Assumes nothing.
-use Rattle.std.specs.Prelude.{ℕ, suc, ◌+◌, ◌-◌, ◌%◌, List, [], ◌∷◌, length, bit_xor, count_ones}
+use Rattle.std.specs.Prelude.{ℕ, suc, ◌+◌, ◌-◌, ◌%◌, ◌^◌, ◌<◌, List, [], ◌∷◌, length, bit_xor, count_ones, slice_index}
 use Rattle.field.specs.Powers.{power}
+
+-- each block is the number of an element of width m
+abbrev pub Below : ℕ → List ℕ → Type 0
+Below m ys = (i : ℕ) → slice_index ys i < 2 ^ m
 
 -- the exclusive-or of all
 abbrev pub xor_all : List ℕ → ℕ

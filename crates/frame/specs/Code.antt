@@ -1,8 +1,12 @@
 -- The numbers that make a code of a field and a column set, and the layout of its frames.
 -- Assumes nothing.
-use Rattle.std.specs.Prelude.{ℕ, ◌+◌, ◌*◌, ◌/◌, Bool, cond, ◌&&◌, List, map, length, Some, None, Option, ◌==◌, nat_le}
+use Rattle.std.specs.Prelude.{◌≡◌, ℕ, ◌+◌, ◌*◌, ◌/◌, Bool, true, false, cond, ◌&&◌, List, map, length, Some, None, Option, ◌==◌, nat_le}
 use Rattle.std.specs.List.{range_with_len}
 use Rattle.bits.specs.Rows.{part}
+use Rattle.field.specs.declared.Field.{Ghosts as FieldGhosts}
+use Rattle.columns.specs.declared.ColumnSet.{Ghosts as SetGhosts}
+use Rattle.frame.specs.declared.verdict.Misfit.{Misfit}
+use Rattle.frame.specs.declared.verdict.Misfit.TheVariants.{Unfit, Size}
 
 -- the width and the product of the field, the columns of the column set and the number of their bits
 pub record Code : Type 0 where
@@ -13,6 +17,10 @@ pub record Code : Type 0 where
 
 abbrev pub code : ℕ → (ℕ → ℕ → ℕ) → List ℕ → ℕ → Code
 code m mul columns r = record { m = m; mul = mul; columns = columns; r = r }
+
+-- the code of a field and a column set, whose ghost members are F and C
+abbrev pub code_of : {T E S : Type 0} → FieldGhosts T E → SetGhosts S → S → Code
+code_of F C set = code F.WIDTH F.mul (C.columns set) (C.height set)
 
 -- there is a column for each bit of an element, and the widths keep their limits
 abbrev pub fits : Code → Bool
@@ -28,6 +36,11 @@ frame_bits K b = (b + 2) * K.m + K.r + 1
 
 abbrev pub frame_bytes : Code → ℕ → ℕ
 frame_bytes K b = (frame_bits K b + 7) / 8
+
+-- why a row of so many bytes is no frame of b blocks
+abbrev pub Misses : Code → ℕ → ℕ → Misfit → Type 0
+Misses K b bytes Unfit = fits K ≡ false
+Misses K b bytes Size = (fits K ≡ true) × (sized b && bytes == frame_bytes K b ≡ false)
 
 -- the bytes of a frame of b blocks, where there is one
 abbrev pub frame_length : Code → ℕ → Option ℕ

@@ -1,6 +1,6 @@
 -- What a frame opens to: the rules of the opening, in their order.
 -- Assumes nothing.
-use Rattle.std.specs.Prelude.{ℕ, zero, suc, ◌%◌, ◌^◌, Bool, cond, ◌&&◌, List, length, Some, None, Ok, Err, Option, Result, ◌==◌, bit_xor, count_ones, nat_eq, slice_index, slice_set}
+use Rattle.std.specs.Prelude.{ℕ, zero, suc, ◌-◌, ◌%◌, ◌^◌, ◌<◌, ◌≤◌, Bool, cond, ◌&&◌, List, length, Some, None, Ok, Err, Option, Result, ◌==◌, bit_xor, count_ones, nat_eq, slice_index, slice_set}
 use Rattle.std.specs.Option.{option_map}
 use Rattle.bits.specs.Digits.{pick}
 use Rattle.bits.specs.Rows.{little}
@@ -95,3 +95,19 @@ abbrev pub filled : Outcome → List ℕ → List ℕ
 filled (clean ys a) before = ys
 filled (mended part ys a) before = ys
 filled (refused fault) before = before
+
+-- the word with the bit put right that a verdict names
+abbrev pub righted : Verdict → List ℕ → List ℕ
+righted Clean ys = ys
+righted (Mended (Block j t)) ys = flipped ys (j - 1) t
+righted (Mended (Mask t)) ys = ys
+righted (Mended (Sum t)) ys = ys
+righted (Mended Parity) ys = ys
+
+-- the bit of a block that a verdict names is one of 32 of one of n blocks
+abbrev pub Names : Verdict → ℕ → Type 0
+Names Clean n = Unit {0}
+Names (Mended (Block j t)) n = (1 ≤ j) × (j ≤ n) × (t < 32)
+Names (Mended (Mask t)) n = Unit {0}
+Names (Mended (Sum t)) n = Unit {0}
+Names (Mended Parity) n = Unit {0}

@@ -8,8 +8,8 @@ mod renewal;
 mod sealer;
 #[cfg(test)]
 mod tests;
-mod value;
 mod verdict;
+mod word;
 
 pub use layout::{fit, frame_len, worked_frames};
 pub use opener::open;

@@ -1,68 +1,99 @@
-// The parts of a frame, read from its bytes.
-ghost use Rattle.std.specs.Prelude.{◌≡◌, ◌+◌, ◌*◌, ◌%◌, ◌^◌, ◌≤◌, length};
-ghost use Rattle.std.specs.Int.Count.{ones};
-ghost use Rattle.bits.specs.Rows.{little, part};
-ghost use Rattle.frame.specs.Code.{places};
+// The parts of a frame: read from its bytes, and written into them.
+ghost use Rattle.std.specs.Prelude.{◌≡◌, ◌+◌, ◌*◌, ◌%◌, ◌^◌, ◌<◌, ◌≤◌, length, count_ones};
+ghost use Rattle.bits.specs.Rows.{little};
+ghost use Rattle.frame.specs.Code.{code_of, places, mask, sum, check, frame_bits, frame_bytes};
 ghost use Rattle.frame.specs.Checks.{all_ones};
+ghost use Rattle.frame.specs.Sealing.{stacked, with_parity};
 
-use bits::get_bits;
+use crate::layout::Layout;
+use crate::word::{Word, count_ones};
+use bits::{get_bits, put_bits};
+use columns::ColumnSet;
+use field::Field;
 
-// What a frame holds beside its blocks, and the ones of all its parts.
+// The parts above the blocks and below the parity bit.
 #[derive(Clone, Copy)]
-pub(crate) struct Stored {
+pub(crate) struct Tail {
     pub mask: u32,
     pub sum: u32,
     pub check: u32,
-    pub ones: u32,
 }
 
-// The blocks of a frame, each m bits, from bit 0 on.
-fn read_word(frame: &[u8], m: u32, word: &mut [u32])
-    requires { (m ≤ 24) × (length word.old ≤ 16) }
-    ensures { word.new ≡ places m (length word.old) (little frame.now) }
-{
-    for (i, block) in word.iter_mut().enumerate() {
-        *block = get_bits(frame, i * m as usize, m);
+impl Tail {
+    // The ones of these parts and of the blocks below them.
+    pub(crate) fn ones_above(self, blocks: &[u32]) -> u32
+        requires { length blocks.now ≤ 16 }
+        ensures value { result ≡ all_ones blocks.now + count_ones self.mask + count_ones self.sum + count_ones self.check }
+        ensures bound { result ≤ 32 * 19 }
+    {
+        count_ones(blocks)
+            + self.mask.count_ones()
+            + self.sum.count_ones()
+            + self.check.count_ones()
     }
 }
 
-// The ones of all blocks.
-pub(crate) fn count_ones(word: &[u32]) -> u32
-    requires { length word.now ≤ 16 }
-    ensures value { result ≡ all_ones word.now }
-    ensures bound { result ≤ 32 * 16 }
-{
-    let mut ones = 0;
-    for block in word {
-        ones += block.count_ones();
+impl<F: Field, C: ColumnSet> Layout<'_, F, C> {
+    // Reads the blocks into a row of their number: a row that is lent for writing cannot say it of itself, as a `Word` does.
+    fn read_blocks(&self, frame: &[u8], blocks: &mut [u32])
+        requires { length blocks.old ≡ self.now.blocks }
+        ensures { blocks.new ≡ places F.WIDTH self.now.blocks (little frame.now) }
+    {
+        let m = self.width();
+        for (i, block) in blocks.iter_mut().enumerate() {
+            *block = get_bits(frame, i * m as usize, m);
+        }
     }
-    ones
+
+    // Reads all parts: the blocks into their places, the parts above them, and the ones of all, the parity bit too.
+    pub(crate) fn read(&self, frame: &[u8], blocks: &mut [u32]) -> (Tail, u32)
+        requires { length blocks.old ≡ self.now.blocks }
+        ensures blocks { blocks.new ≡ places F.WIDTH self.now.blocks (little frame.now) }
+        ensures mask { result.0.mask ≡ mask (code_of F.Field C.ColumnSet self.now.set.now) self.now.blocks (little frame.now) }
+        ensures sum { result.0.sum ≡ sum (code_of F.Field C.ColumnSet self.now.set.now) self.now.blocks (little frame.now) }
+        ensures check { result.0.check ≡ check (code_of F.Field C.ColumnSet self.now.set.now) self.now.blocks (little frame.now) }
+        ensures ones { result.1 ≡ count_ones (little frame.now % 2 ^ frame_bits (code_of F.Field C.ColumnSet self.now.set.now) self.now.blocks) }
+    {
+        self.read_blocks(frame, blocks);
+        let tail = Tail {
+            mask: get_bits(frame, self.mask_at(), self.width()),
+            sum: get_bits(frame, self.sum_at(), self.sum_bits()),
+            check: get_bits(frame, self.check_at(), self.width()),
+        };
+        let parity = get_bits(frame, self.parity_at(), 1);
+        let ones = tail.ones_above(blocks) + parity;
+        (tail, ones)
+    }
 }
 
-pub(crate) fn read(frame: &[u8], m: u32, r: u32, word: &mut [u32]) -> Stored
-    requires { (m ≤ 24) × ((r ≤ 8) × (length word.old ≤ 16)) }
-    ensures blocks { word.new ≡ places m (length word.old) (little frame.now) }
-    ensures mask { result.mask ≡ part (little frame.now) (length word.old * m) m }
-    ensures sum { result.sum ≡ part (little frame.now) ((length word.old + 1) * m) r }
-    ensures check { result.check ≡ part (little frame.now) ((length word.old + 1) * m + r) m }
-    ensures ones { result.ones ≡ ones (little frame.now % 2 ^ ((length word.old + 2) * m + r + 1)) }
-{
-    let b = word.len();
-    let width = m as usize;
-    read_word(frame, m, word);
-    let mask = get_bits(frame, b * width, m);
-    let sum = get_bits(frame, (b + 1) * width, r);
-    let check = get_bits(frame, (b + 1) * width + r as usize, m);
-    let parity = get_bits(frame, (b + 2) * width + r as usize, 1);
-    let ones = count_ones(word)
-        + mask.count_ones()
-        + sum.count_ones()
-        + check.count_ones()
-        + parity;
-    Stored {
-        mask,
-        sum,
-        check,
-        ones,
+impl<F: Field, C: ColumnSet> Word<'_, '_, F, C> {
+    // Writes the blocks into a row of zeros.
+    fn put_blocks(&self, frame: &mut [u8])
+        requires room { self.now.layout.blocks * F.WIDTH ≤ 8 * length frame.old }
+        requires empty { little frame.old ≡ 0 }
+        ensures { little frame.new ≡ stacked F.WIDTH self.now.blocks.now 0 }
+    {
+        let m = self.layout.width();
+        for (i, y) in self.blocks.iter().enumerate() {
+            put_bits(frame, i * m as usize, *y);
+        }
+    }
+
+    // Writes all parts, with the parity bit that makes the count of ones even.
+    pub(crate) fn put_parts(&self, tail: Tail, frame: &mut [u8])
+        requires parts { (tail.mask < 2 ^ F.WIDTH) × (tail.sum < 2 ^ C.height self.now.layout.set.now) × (tail.check < 2 ^ F.WIDTH) }
+        requires long { length frame.old ≡ frame_bytes (code_of F.Field C.ColumnSet self.now.layout.set.now) self.now.layout.blocks }
+        ensures { little frame.new ≡ with_parity ((self.now.layout.blocks + 2) * F.WIDTH + C.height self.now.layout.set.now) (stacked F.WIDTH self.now.blocks.now ((tail.check * 2 ^ C.height self.now.layout.set.now + tail.sum) * 2 ^ F.WIDTH + tail.mask)) }
+    {
+        frame.fill(0);
+        self.put_blocks(frame);
+        put_bits(frame, self.layout.mask_at(), tail.mask);
+        put_bits(frame, self.layout.sum_at(), tail.sum);
+        put_bits(frame, self.layout.check_at(), tail.check);
+        put_bits(
+            frame,
+            self.layout.parity_at(),
+            tail.ones_above(self.blocks) % 2,
+        );
     }
 }

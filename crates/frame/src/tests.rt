@@ -5,6 +5,7 @@ use salt::{DrawFault, Noise};
 use std::test::Fail;
 
 // One word in two frames, each with a salt of its own; a salt that is not used on an early way out is thrown away by name.
+// The gate's misuses of a salt are one edit away from here.
 fn seal_twice(noise: &mut Noise, first: &mut [u8], second: &mut [u8]) -> Result<bool, DrawFault> {
     let one = noise.draw::<field::Gf7>(2)?;
     let two = match noise.draw::<field::Gf7>(2) {

@@ -1,6 +1,7 @@
 -- What the program prints for what it reads, byte for byte.
 -- Assumes nothing.
-use Rattle.std.specs.Prelude.{ℕ, suc, ◌+◌, ◌-◌, ◌*◌, cond, ◌&&◌, List, [], ◌∷◌, ◌++◌, length, Some, None, codes, decimal, Option, ◌==◌, nat_le, nat_lt}
+use Rattle.std.specs.Prelude.{◌≡◌, ℕ, suc, ◌+◌, ◌-◌, ◌*◌, ◌≤◌, cond, ◌&&◌, List, [], ◌∷◌, ◌++◌, length, Some, None, codes, decimal, Option, ◌==◌, nat_le, nat_lt}
+use Rattle.std.specs.List.{flat_map}
 use Rattle.std.specs.Str.{bytes_eq}
 use Rattle.frame.specs.Code.{Code}
 use Rattle.frame.specs.Faults.{open_number}
@@ -12,6 +13,10 @@ use Rattle.frame.specs.declared.verdict.Part.{Part}
 use Rattle.frame.specs.declared.verdict.Part.TheVariants.{Block, Mask, Sum, Parity}
 use Rattle.frame.specs.declared.verdict.Verdict.{Verdict}
 use Rattle.frame.specs.declared.verdict.Verdict.TheVariants.{Clean, Mended}
+use Rattle.report.specs.declared.words.Answer.{Answer}
+use Rattle.report.specs.declared.words.Answer.TheVariants.{Opened, Refused}
+use Rattle.report.specs.declared.words.InputFault.{InputFault}
+use Rattle.report.specs.declared.words.InputFault.TheVariants.{Long, Heading}
 
 -- a byte before the first of some lines
 abbrev pub before : ℕ → List (List ℕ) → List (List ℕ)
@@ -45,14 +50,17 @@ decoded [] = Some []
 decoded (x ∷ []) = None
 decoded (x ∷ y ∷ xs) = onto (byte (digit x) (digit y)) (decoded xs)
 
+-- some bytes are a number b, 1 to 16, as it is printed
+abbrev pub Names : List ℕ → ℕ → Type 0
+Names digits b = (1 ≤ b) × (b ≤ 16) × (digits ≡ decimal b)
+
 -- the number of blocks b, 1 to 16, for which a line is the width, one space and b, all in decimal
 abbrev pub blocks_named : ℕ → List ℕ → Option ℕ
 blocks_named width line = first (λ b. bytes_eq (decimal width ++ 32 ∷ decimal b) line) 1 16
 
 -- each block after a space
 abbrev pub numbers : List ℕ → List ℕ
-numbers [] = []
-numbers (y ∷ ys) = 32 ∷ decimal y ++ numbers ys
+numbers ys = flat_map (λ y. 32 ∷ decimal y) ys
 
 -- the part in which a bit was put right
 abbrev pub part_text : Part → List ℕ
@@ -70,6 +78,12 @@ verdict_text (Mended part) ys = codes "mended" ++ numbers ys ++ codes " at " ++ 
 abbrev pub refusal_text : OpenFault → List ℕ
 refusal_text fault = codes "refused " ++ decimal (open_number fault)
 
+-- the answer to a frame
+abbrev pub answer_text : Answer → List ℕ
+answer_text (Opened verdict word) = verdict_text verdict word.now
+answer_text (Refused fault) = refusal_text fault
+
+-- the same, of what the frame opens to
 abbrev pub outcome_text : Outcome → List ℕ
 outcome_text (clean ys a) = verdict_text Clean ys
 outcome_text (mended part ys a) = verdict_text (Mended part) ys
@@ -84,6 +98,11 @@ line_outcome K b (Some bytes) = row_opening K b bytes
 abbrev pub frames_text : Code → ℕ → ℕ → List (List ℕ) → List ℕ
 frames_text K b n [] = []
 frames_text K b n (line ∷ more) = decimal n ++ 32 ∷ outcome_text (line_outcome K b (decoded line)) ++ 10 ∷ frames_text K b (suc n) more
+
+-- a whole input that is refused
+abbrev pub input_refusal : InputFault → List ℕ
+input_refusal Long = codes "refused 2"
+input_refusal Heading = codes "refused 9"
 
 -- the frames after a first line, by the numbers of blocks that it names at width 7 and at width 17
 abbrev pub headed_text : Option ℕ → Option ℕ → List (List ℕ) → List ℕ

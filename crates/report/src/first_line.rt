@@ -1,16 +1,19 @@
 // The first line: the width and the number of blocks.
-ghost use Rattle.std.specs.Prelude.{◌≡◌, ◌≤◌, ◌∷◌, ◌++◌, IfSome, IfOk, decimal};
-ghost use Rattle.std.specs.Str.{bytes_eq};
-ghost use Rattle.report.specs.Text.{blocks_named};
+ghost use Rattle.std.specs.Prelude.{◌≡◌, ℕ, ◌≤◌, IfSome, IfOk, MatchOption};
+ghost use Rattle.report.specs.Text.{Names, blocks_named};
 
 use std::alloc::{AllocError, Global};
 
-// Whether the line is the width, one space and b, both as they are printed.
-fn is_first_line(heap: Global, width: u32, b: usize, line: &[u8]) -> Result<bool, AllocError>
-    ensures { IfOk result (λ t. t ≡ bytes_eq (decimal width ++ 32 ∷ decimal b) line.now) }
+// The number, 1 to 16, that is printed so; `parse` would take signs and leading zeros too.
+#[tactic(auto, using(crate::proofs::Counting::one_digit, crate::proofs::Counting::one_and_digit, crate::proofs::Counting::shaped))]
+fn count(digits: &[u8]) -> Option<usize>
+    ensures { MatchOption result ((b : ℕ) → Names digits.now b → ⊥) (Names digits.now) }
 {
-    let wanted = format!(in heap; "{width} {b}")?;
-    Ok(wanted.as_bytes() == line)
+    match digits {
+        [x @ b'1'..=b'9'] => Some(usize::from(*x - b'0')),
+        [b'1', x @ b'0'..=b'6'] => Some(usize::from(*x - b'0') + 10),
+        _ => None,
+    }
 }
 
 // The number of blocks, 1 to 16, with which the line names the width.
@@ -22,10 +25,6 @@ pub(crate) fn block_count(
     ensures value { IfOk result (λ o. o ≡ blocks_named width line.now) }
     ensures bound { IfOk result (λ o. IfSome o (λ b. b ≤ 16)) }
 {
-    for b in 1..17 {
-        if is_first_line(heap, width, b, line)? {
-            return Ok(Some(b));
-        }
-    }
-    Ok(None)
+    let start = format!(in heap; "{width} ")?;
+    Ok(line.strip_prefix(start.as_bytes()).and_then(count))
 }

@@ -1,35 +1,32 @@
 // A line for each frame.
 ghost use Rattle.std.specs.Prelude.{◌≡◌, ◌≤◌, length, IfOk, string_bytes};
-ghost use Rattle.frame.specs.Code.{code};
-ghost use Rattle.report.specs.Text.{lines, decoded, line_outcome, outcome_text, frames_text};
+ghost use Rattle.frame.specs.Code.{code_of};
+ghost use Rattle.report.specs.Text.{lines, decoded, answer_text, line_outcome, outcome_text, frames_text};
 
 use crate::hex::decode;
-use crate::lines::split_line;
-use crate::words::{describe, refuse};
+use crate::lines::Lines;
+use crate::words::Answer;
 use columns::ColumnSet;
 use field::Field;
 use frame::{OpenFault, open};
 use std::alloc::{AllocError, Global};
 
-// What a line opens to, in words; one that is not pairs of digits is refused for its length.
-fn open_line<F: Field, C: ColumnSet>(
+// What a line opens to in a row of one place for each block; one that is not pairs of digits is refused for its length.
+fn open_line<'a, F: Field, C: ColumnSet>(
     heap: Global,
     set: &C,
-    b: usize,
     line: &[u8],
-) -> Result<String, AllocError>
-    requires { b ≤ 16 }
-    ensures { IfOk result (λ s. string_bytes s ≡ outcome_text (line_outcome (code F.m F.mul (C.columns set.now) (C.height set.now)) b (decoded line.now))) }
+    row: &'a mut [u32],
+) -> Result<Answer<'a>, AllocError>
+    ensures { IfOk result (λ a. answer_text a ≡ outcome_text (line_outcome (code_of F.Field C.ColumnSet set.now) (length row.old) (decoded line.now))) }
 {
     let Some(frame) = decode(heap, line)? else {
-        return refuse(heap, OpenFault::Size);
+        return Ok(Answer::Refused(OpenFault::Size));
     };
-    let mut room = [0u32; 16];
-    let row = &mut room[0..b];
-    match open::<F, C>(set, &frame, row) {
-        Ok((verdict, _)) => describe(heap, verdict, row),
-        Err(fault) => refuse(heap, fault),
-    }
+    Ok(match open::<F, C>(set, &frame, row) {
+        Ok((verdict, _)) => Answer::Opened(verdict, row),
+        Err(fault) => Answer::Refused(fault),
+    })
 }
 
 // A line for each line of the text, numbered from 1.
@@ -37,20 +34,17 @@ pub(crate) fn report_frames<F: Field, C: ColumnSet>(
     heap: Global,
     set: &C,
     b: usize,
-    text: &[u8],
+    frames: &[u8],
 ) -> Result<String, AllocError>
-    requires blocks { b ≤ 16 }
-    requires short { length text.now ≤ 65536 }
-    ensures { IfOk result (λ s. string_bytes s ≡ frames_text (code F.m F.mul (C.columns set.now) (C.height set.now)) b 1 (lines text.now)) }
+    requires { b ≤ 16 }
+    ensures { IfOk result (λ s. string_bytes s ≡ frames_text (code_of F.Field C.ColumnSet set.now) b 1 (lines frames.now)) }
 {
     let mut report = String::new(heap);
-    let mut number = 1u32;
-    let mut rest = text;
-    while let Some((line, more)) = split_line(rest) {
-        let outcome = open_line::<F, C>(heap, set, b, line)?;
-        report.push_str(&format!(in heap; "{number} {outcome}\n")?)?;
-        number += 1;
-        rest = more;
+    for (i, line) in Lines(frames).enumerate() {
+        // a room for the most blocks, as `open` takes a slice of as many places as there are
+        let mut room = [0u32; 16];
+        let answer = open_line::<F, C>(heap, set, line, &mut room[..b])?;
+        writeln!(report, "{} {answer}", i + 1)?;
     }
     Ok(report)
 }

@@ -5,7 +5,7 @@ ghost use Rattle.report.specs.Text.{digit, byte, decoded};
 
 use std::alloc::{AllocError, Global};
 
-// The value of a digit; an uppercase letter is none.
+// The value of a digit; an uppercase letter, which `to_digit` takes too, is none.
 fn digit_value(x: u8) -> Option<u8>
     ensures value { result ≡ digit x }
     ensures bound { IfSome result (λ d. d < 16) }
@@ -21,28 +21,24 @@ fn digit_value(x: u8) -> Option<u8>
 fn pair_value(high: u8, low: u8) -> Option<u8>
     ensures { result ≡ byte (digit high) (digit low) }
 {
-    match (digit_value(high), digit_value(low)) {
-        (Some(high), Some(low)) => Some(high * 16 + low),
-        _ => None,
-    }
+    Some(digit_value(high)? * 16 + digit_value(low)?)
 }
 
-// The bytes that a line stands for, if it is pairs of digits.
+// The bytes that a line stands for, if it is pairs of digits; the error is want of memory alone.
 pub(crate) fn decode(heap: Global, line: &[u8]) -> Result<Option<Vec<u8>>, AllocError>
     ensures { IfOk result (λ o. option_map vec_items o ≡ decoded line.now) }
 {
-    let mut bytes = Vec::new(heap);
-    let mut rest = line;
-    while let [high, low, more @ ..] = rest {
+    let (pairs, rest) = line.as_chunks::<2>();
+    if !rest.is_empty() {
+        return Ok(None);
+    }
+    // not by `collect` into an `Option`: no proof learns when that is none
+    let mut bytes = Vec::with_capacity(heap, pairs.len())?;
+    for [high, low] in pairs {
         let Some(byte) = pair_value(*high, *low) else {
             return Ok(None);
         };
         bytes.push(byte)?;
-        rest = more;
     }
-    if rest.is_empty() {
-        Ok(Some(bytes))
-    } else {
-        Ok(None)
-    }
+    Ok(Some(bytes))
 }

@@ -1,8 +1,8 @@
 // What the program reads, and what it prints for that.
-ghost use Rattle.std.specs.Prelude.{◌≡◌, ℕ, List, take, IfOk, string_bytes};
+ghost use Rattle.std.specs.Prelude.{◌≡◌, ℕ, List, take, IfOk, IfSome, string_bytes};
 ghost use Rattle.report.specs.Text.{report_text};
 
-use crate::report_on;
+use crate::{LONGEST, report_on};
 use std::alloc::Global;
 use std::io;
 use std::io::Read;
@@ -11,12 +11,15 @@ use std::io::Read;
 fn enough_bytes() -> u64
     ensures { (input : List ℕ) → report_text (take result input) ≡ report_text input }
 {
-    65_537
+    LONGEST as u64 + 1
 }
 
 // All that is printed for what a reader gives. No more is read than is enough.
 pub fn report_from<R: Read + Drop>(heap: Global, reader: R) -> io::Result<String>
-    ensures { IfOk result (λ text. ((input : List ℕ) × (string_bytes text ≡ report_text input))) }
+    ensures some { IfOk result (λ text. ((input : List ℕ) × (string_bytes text ≡ report_text input))) }
+
+    // Where the bytes that the reader has left are known, it is what is printed for them.
+    ensures known { IfOk result (λ text. IfSome (R.remaining reader) (λ input. string_bytes text ≡ report_text input)) }
 {
     let mut input = Vec::new(heap);
     reader.take(enough_bytes()).read_to_end(&mut input)?;

@@ -33,7 +33,7 @@ pub enum DrawFault {
 }
 
 impl DrawFault {
-    // The number by which the refusal is known.
+    // The number by which the refusal is known; a method, since `u8::from(fault)` says less where it is read.
     pub fn number(self) -> u8
         ensures { result ≡ fault_number self }
     {
@@ -41,7 +41,7 @@ impl DrawFault {
     }
 }
 
-// Noise bytes, with the place up to which they are used.
+// Noise bytes, with the place up to which they are used: the project asks for a lent slice and a position.
 #[derive(Drop)]
 pub struct Noise<'a> {
     bytes: &'a [u8],

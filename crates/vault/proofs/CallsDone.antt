@@ -1,10 +1,15 @@
--- What the calls on one cell answer and leave, way by way.
+-- What the calls on one cell answer and leave, once they have its bytes.
 -- Assumes nothing.
-use Rattle.std.proofs.Common.{◌≡◌, ℕ, ◌+◌, ◌*◌, ◌<◌, ◌≤◌, eqb, ltb, List, ◌++◌, length, take, drop, Ok, Err, Result, sym, refl, ap, ◌∙◌, ap₂, arith, take_all}
-use lib.Seq.{paste}
-use Rattle.std.proofs.lemmas.Bool.{cond-true, cond-false, lt-ltb, le-ltb, eq-eqb, ne_eqb}
+use Rattle.std.proofs.Common.{◌≡◌, ℕ, ◌≤◌, true, eqb, ltb, List, length, drop, MatchResult, Some, None, Ok, Err, Option, Result, sym, refl, ap, ◌∙◌, subst, ap₂, arith, take_at}
+use Rattle.std.specs.List.{refill}
+use Rattle.std.specs.Option.{ok_or}
+use Rattle.std.specs.Result.{IsErrAnd}
+use Rattle.std.proofs.lemmas.Option.{MatchOption-at_some}
+use Rattle.std.proofs.lemmas.Bool.{cond-true, cond-false, lt-ltb, eq-eqb, ne_eqb}
+use Rattle.arrayvec.specs.ArrayVec.{ArrayVec}
 use Rattle.bits.specs.Rows.{xored}
 use Rattle.frame.specs.Opening.{Outcome, clean, mended, refused, answer, filled, row_opening}
+use Rattle.frame.specs.Renewal.{renewed}
 use Rattle.frame.specs.Sealing.{sealing, row_sealing, seal_answer, sealed_row, bytes_of}
 use Rattle.frame.specs.declared.verdict.OpenFault.{OpenFault}
 use Rattle.frame.specs.declared.verdict.SealFault.{SealFault}
@@ -12,108 +17,129 @@ use Rattle.frame.specs.declared.verdict.Verdict.{Verdict}
 use Rattle.frame.specs.declared.verdict.Verdict.TheVariants.{Clean, Mended}
 use Rattle.frame.proofs.Fits.{row_opens}
 use Rattle.frame.proofs.Sealings.{sealing_passes}
-use Rattle.vault.specs.Cells.{Vault, cell_bytes, count, cell, with_cell}
-use Rattle.vault.specs.Calls.{write, read, inject, wrote, got, struck, Does, write_sealed, write_answer, written, opened, cell_opening, read_answer, received, inject_answer, injected}
+use Rattle.vault.specs.Cells.{Vault, cell_bytes, count, cell, with_cell, IsCell}
+use Rattle.vault.specs.Calls.{write, read, inject, wrote, got, struck, Does, write_sealed, write_answer, written, opened, cell_opening, read_answer, received, inject_answer, injected, swept_cell}
+use Rattle.vault.specs.Held.{Fetches}
+use Rattle.vault.specs.Tally.{found_of, mended_found}
 use Rattle.vault.specs.declared.answers.InjectFault.{InjectFault}
 use Rattle.vault.specs.declared.answers.InjectFault.TheVariants as injects
 use Rattle.vault.specs.declared.answers.ReadFault.{ReadFault}
 use Rattle.vault.specs.declared.answers.ReadFault.TheVariants as reads
 use Rattle.vault.specs.declared.answers.WriteFault.{WriteFault}
 use Rattle.vault.specs.declared.answers.WriteFault.TheVariants as writes
-use Rattle.vault.proofs.Rows.{cell_long}
 use Rattle.vault.proofs.Shelf.{standing}
+use Rattle.vault.proofs.Rows.{with_own}
+
+-- what is known of the bytes that were fetched
+module _ (V : Vault) (row : List ℕ) (c : ℕ) (o : Option (ArrayVec ℕ)) (bytes : ArrayVec ℕ) (known : Fetches V c row o) where
+  pub by_unwrap : o ≡ Some bytes → IsCell V c row bytes.items
+  by_unwrap is = MatchOption-at_some (count V row ≤ c) (λ bytes. IsCell V c row bytes.items) bytes is known
+
+  pub by_ok_or : {E : Type 0} (fault : E) → ok_or o fault ≡ Ok bytes → IsCell V c row bytes.items
+  by_ok_or fault is = by_unwrap (some o is)
+    where
+      some : (o : Option (ArrayVec ℕ)) → ok_or o fault ≡ Ok bytes → o ≡ Some bytes
+      some None is = cc
+      some (Some x) is = cc
+
+-- bytes that were lent for writing, and came back as many as they were
+pub lent_back : (n : ℕ) (before after : List ℕ) → length after ≡ n → refill n before after ≡ after
+lent_back n before after long = take_at after (drop (length after) before) n long
 
 -- what sealing refused
-refusal : (s : Result ℕ SealFault) (fault : SealFault) → Err fault ≡ seal_answer s → write_sealed s ≡ Err (writes.Seal fault)
-refusal (Ok N) fault e = let z : ◌≡◌ {A = ℕ} 0 1 = cc in absurd (omega arith)
+refusal : (s : Result ℕ SealFault) (fault : SealFault) → seal_answer s ≡ Err fault → write_sealed s ≡ Err (writes.Seal fault)
+refusal (Ok N) fault e = cc
 refusal (Err f) fault e = cc
 
--- what opening answered
-opened_ok : (c : ℕ) (o : Outcome) (verdict : Verdict) (a : ℕ) → Ok (verdict, a) ≡ answer o → opened c o ≡ Ok verdict
-opened_ok c (clean ys b) verdict a e = let p : ◌≡◌ {A = Verdict × ℕ} (verdict, a) (Clean, b) = cc in ap Ok (sym (ap (λ q. q.0) p))
-opened_ok c (mended part ys b) verdict a e = let p : ◌≡◌ {A = Verdict × ℕ} (verdict, a) (Mended part, b) = cc in ap Ok (sym (ap (λ q. q.0) p))
-opened_ok c (refused fault) verdict a e = let z : ◌≡◌ {A = ℕ} 0 1 = cc in absurd (omega arith)
+-- what the refusals of opening become where they are named by the cell
+module _ (c : ℕ) (s : Result (Verdict × ℕ) OpenFault) (r : Result (Verdict × ℕ) ReadFault) where
+  abbrev Named : Result (Verdict × ℕ) OpenFault → Type 0
+  Named t = MatchResult t (λ x. r ≡ Ok x) (λ fault. IsErrAnd r (λ named. named ≡ reads.Frame c fault))
 
-opened_err : (c : ℕ) (o : Outcome) (fault : OpenFault) → Err fault ≡ answer o → opened c o ≡ Err (reads.Frame c fault)
-opened_err c (clean ys b) fault e = let z : ◌≡◌ {A = ℕ} 0 1 = cc in absurd (omega arith)
-opened_err c (mended part ys b) fault e = let z : ◌≡◌ {A = ℕ} 0 1 = cc in absurd (omega arith)
-opened_err c (refused f) fault e = cc
+  pub opened_ok : (o : Outcome) (verdict : Verdict) (a : ℕ) → s ≡ answer o → Named s → r ≡ Ok (verdict, a) → opened c o ≡ Ok verdict
+  opened_ok (clean ys b) verdict a e m is =
+      let came : r ≡ Ok (Clean, b) = subst Named e m in
+      let p : ◌≡◌ {A = Verdict × ℕ} (Clean, b) (verdict, a) = cc in ap (λ q. Ok (q.0)) p
+  opened_ok (mended part ys b) verdict a e m is =
+      let came : r ≡ Ok (Mended part, b) = subst Named e m in
+      let p : ◌≡◌ {A = Verdict × ℕ} (Mended part, b) (verdict, a) = cc in ap (λ q. Ok (q.0)) p
+  opened_ok (refused fault) verdict a e m is =
+      let came : IsErrAnd r (λ named. named ≡ reads.Frame c fault) = subst Named e m in
+      let none : IsErrAnd {T = Verdict × ℕ} (Ok (verdict, a)) (λ named. named ≡ reads.Frame c fault) = subst (λ t. IsErrAnd t (λ named. named ≡ reads.Frame c fault)) is came in
+      absurd none
 
-module _ (V : Vault) (row : List ℕ) (c : ℕ) where
-  -- the bytes fetched from the place of the cell, and the row with bytes stored there
-  pub fetched : (start n : ℕ) → start ≡ c * cell_bytes V → n ≡ cell_bytes V → take n (drop start row) ≡ cell V c row
-  fetched start n at long = ap₂ (λ k i. take k (drop i row)) long at
+  pub opened_err : (o : Outcome) (named : ReadFault) (places : List ℕ) → s ≡ answer o → Named s → r ≡ Err named → (opened c o ≡ Err named) × (filled o places ≡ places)
+  opened_err (clean ys b) named places e m is = let came : r ≡ Ok (Clean, b) = subst Named e m in cc
+  opened_err (mended part ys b) named places e m is = let came : r ≡ Ok (Mended part, b) = subst Named e m in cc
+  opened_err (refused fault) named places e m is =
+      let came : IsErrAnd r (λ x. x ≡ reads.Frame c fault) = subst Named e m in
+      let same : named ≡ reads.Frame c fault = subst (λ t. IsErrAnd t (λ x. x ≡ reads.Frame c fault)) is came in
+      (ap Err (sym same), refl)
 
-  pub stored : (start : ℕ) (bytes : List ℕ) → start ≡ c * cell_bytes V → length bytes ≡ cell_bytes V → paste row start bytes (length bytes) ≡ with_cell V c bytes row
-  stored start bytes at long =
-      ap (λ xs. take start row ++ xs ++ drop (start + length bytes) row) (take_all (length bytes) bytes (omega arith))
-      ∙ ap₂ (λ i n. take i row ++ bytes ++ drop (i + n) row) at long
+-- what a sweep finds, by what opening answered, and a cell that is not mended
+pub found_ok : (o : Outcome) (verdict : Verdict) (a : ℕ) → answer o ≡ Ok (verdict, a) → Ok verdict ≡ found_of o
+found_ok (clean ys b) verdict a e = let p : ◌≡◌ {A = Verdict × ℕ} (verdict, a) (Clean, b) = cc in ap (λ q. Ok (q.0)) p
+found_ok (mended part ys b) verdict a e = let p : ◌≡◌ {A = Verdict × ℕ} (verdict, a) (Mended part, b) = cc in ap (λ q. Ok (q.0)) p
+found_ok (refused fault) verdict a e = cc
 
-  module _ (ys : List ℕ) (a : ℕ) where
+pub found_err : (o : Outcome) (fault : OpenFault) → answer o ≡ Err fault → Err fault ≡ found_of o
+found_err (clean ys b) fault e = cc
+found_err (mended part ys b) fault e = cc
+found_err (refused other) fault e = cc
+
+pub unmended : (V : Vault) (row : List ℕ) (c : ℕ) → mended_found (found_of (cell_opening V c row)) ≡ 0 → row ≡ with_cell V c (swept_cell V c row) row
+unmended V row c none = sym (ap (λ xs. with_cell V c xs row) (stays (cell_opening V c row) none) ∙ with_own V c row)
+  where
+    stays : (o : Outcome) → mended_found (found_of o) ≡ 0 → renewed V.K (cell V c row) o ≡ cell V c row
+    stays (clean ys b) none = refl
+    stays (mended part ys b) none = absurd (omega arith)
+    stays (refused fault) none = refl
+
+module _ (V : Vault) (row : List ℕ) (c : ℕ) (bytes : List ℕ) (here : IsCell V c row bytes) where
+  below : ltb c (count V row) ≡ true
+  below = lt-ltb c (count V row) here.below
+
+  module _ (ys : List ℕ) (a : ℕ) (all : length ys ≡ V.b) where
+    seals : write_answer V row c ys a ≡ write_sealed (row_sealing V.K ys a (length bytes))
+    seals =
+        cond-true (ltb c (count V row)) _ _ below ∙ cond-true (eqb (length ys) V.b) _ _ (eq-eqb (length ys) V.b all)
+        ∙ ap (λ n. write_sealed (row_sealing V.K ys a n)) (sym here.long)
+
     writes_as : (r : Result (Unit {0}) WriteFault) → write_answer V row c ys a ≡ r → Does V row (write c ys a) (wrote r) (written V row c ys a r)
     writes_as r e = (ap wrote (sym e), ap (written V row c ys a) (sym e))
 
-    pub write_no_cell : count V row ≤ c → Does V row (write c ys a) (wrote (Err writes.Cell)) row
-    write_no_cell h = writes_as (Err writes.Cell) (cond-false (ltb c (count V row)) _ _ (le-ltb c (count V row) h))
+    pub write_refused : (fault : SealFault) → seal_answer (row_sealing V.K ys a (length bytes)) ≡ Err fault → Does V row (write c ys a) (wrote (Err (writes.Seal fault))) row
+    write_refused fault e = writes_as (Err (writes.Seal fault)) (seals ∙ refusal (row_sealing V.K ys a (length bytes)) fault e)
 
-    pub write_no_size : c < count V row → (length ys ≡ V.b → ⊥) → Does V row (write c ys a) (wrote (Err writes.Size)) row
-    write_no_size h other =
-        writes_as (Err writes.Size) (cond-true (ltb c (count V row)) _ _ (lt-ltb c (count V row) h) ∙ cond-false (eqb (length ys) V.b) _ _ (ne_eqb (length ys) V.b other))
+    pub write_done : (frame after : List ℕ) → seal_answer (row_sealing V.K ys a (length bytes)) ≡ Ok tt → frame ≡ sealed_row (row_sealing V.K ys a (length bytes)) bytes → after ≡ with_cell V c frame row → Does V row (write c ys a) (wrote (Ok tt)) after
+    write_done frame after e is stored =
+        let ok = sealing_passes V.K ys a (length bytes) (sym e) in
+        let told : write_answer V row c ys a ≡ Ok tt = seals ∙ ap write_sealed ok.is in
+        let sealed : frame ≡ bytes_of (cell_bytes V) (sealing V.K ys a) = is ∙ ap (λ s. sealed_row s bytes) ok.is ∙ ap (λ n. bytes_of n (sealing V.K ys a)) here.long in
+        (ap wrote (sym told), stored ∙ ap (λ xs. with_cell V c xs row) sealed ∙ ap (written V row c ys a) (sym told))
 
-    seals : c < count V row → length ys ≡ V.b → write_answer V row c ys a ≡ write_sealed (row_sealing V.K ys a (cell_bytes V))
-    seals h all = cond-true (ltb c (count V row)) _ _ (lt-ltb c (count V row) h) ∙ cond-true (eqb (length ys) V.b) _ _ (eq-eqb (length ys) V.b all)
+  -- the frame in the cell opens as the cell does
+  pub opens : (b : ℕ) → b ≡ V.b → row_opening V.K b bytes ≡ cell_opening V c row
+  opens b all =
+      let known = standing V row c here.below in
+      ap₂ (row_opening V.K) all here.is ∙ row_opens V.K V.b (cell V c row) known.fit known.few (ap length (sym here.is) ∙ here.long)
 
-    pub write_no_seal : c < count V row → length ys ≡ V.b → (n : ℕ) → n ≡ cell_bytes V → (fault : SealFault) → Err fault ≡ seal_answer (row_sealing V.K ys a n) → Does V row (write c ys a) (wrote (Err (writes.Seal fault))) row
-    write_no_seal h all n long fault e =
-        writes_as (Err (writes.Seal fault)) (seals h all ∙ refusal (row_sealing V.K ys a (cell_bytes V)) fault (e ∙ ap (λ k. seal_answer (row_sealing V.K ys a k)) long))
-
-    pub write_done : c < count V row → length ys ≡ V.b → (before frame : List ℕ) → length before ≡ cell_bytes V → Ok tt ≡ seal_answer (row_sealing V.K ys a (length before)) → frame ≡ sealed_row (row_sealing V.K ys a (length before)) before → Does V row (write c ys a) (wrote (Ok tt)) (with_cell V c frame row)
-    write_done h all before frame long e is =
-        let ok = sealing_passes V.K ys a (length before) e in
-        let told : write_answer V row c ys a ≡ Ok tt = seals h all ∙ ap (λ k. write_sealed (row_sealing V.K ys a k)) (sym long) ∙ ap write_sealed ok.is in
-        let bytes : frame ≡ bytes_of (cell_bytes V) (sealing V.K ys a) = is ∙ ap (λ s. sealed_row s before) ok.is ∙ ap (λ n. bytes_of n (sealing V.K ys a)) long in
-        (ap wrote (sym told), ap (λ xs. with_cell V c xs row) bytes ∙ ap (written V row c ys a) (sym told))
-
-  module _ (places : List ℕ) where
-    reads_as : (r : Result Verdict ReadFault) (after : List ℕ) → read_answer V row c (length places) ≡ r → after ≡ received V row c places r → Does V row (read c places) (got r after) row
-    reads_as r after e is = (ap₂ got (sym e) (is ∙ ap (received V row c places) (sym e)), refl)
-
-    pub read_no_cell : count V row ≤ c → Does V row (read c places) (got (Err reads.Cell) places) row
-    read_no_cell h = reads_as (Err reads.Cell) places (cond-false (ltb c (count V row)) _ _ (le-ltb c (count V row) h)) refl
-
-    pub read_no_size : c < count V row → (length places ≡ V.b → ⊥) → Does V row (read c places) (got (Err reads.Size) places) row
-    read_no_size h other =
-        reads_as (Err reads.Size) places (cond-true (ltb c (count V row)) _ _ (lt-ltb c (count V row) h) ∙ cond-false (eqb (length places) V.b) _ _ (ne_eqb (length places) V.b other)) refl
-
-    module _ (h : c < count V row) (all : length places ≡ V.b) where
-      opens : read_answer V row c (length places) ≡ opened c (cell_opening V c row)
-      opens = cond-true (ltb c (count V row)) _ _ (lt-ltb c (count V row) h) ∙ cond-true (eqb (length places) V.b) _ _ (eq-eqb (length places) V.b all)
-
-      -- the frame in the cell opens as the cell does
-      pub frame_opens : (frame : List ℕ) → frame ≡ cell V c row → row_opening V.K (length places) frame ≡ cell_opening V c row
-      frame_opens frame is =
-          let known = standing V row c h in
-          ap₂ (row_opening V.K) all is ∙ row_opens V.K V.b (cell V c row) known.fit known.few (cell_long V row c h)
-
-      pub read_done : (o : Outcome) → o ≡ cell_opening V c row → (verdict : Verdict) (a : ℕ) (after : List ℕ) → Ok (verdict, a) ≡ answer o → after ≡ filled o places → Does V row (read c places) (got (Ok verdict) after) row
-      read_done o which verdict a after e is =
-          reads_as (Ok verdict) after (opens ∙ ap (opened c) (sym which) ∙ opened_ok c o verdict a e) (is ∙ ap (λ x. filled x places) which)
-
-      pub read_refused : (o : Outcome) → o ≡ cell_opening V c row → (fault : OpenFault) (after : List ℕ) → Err fault ≡ answer o → after ≡ places → Does V row (read c places) (got (Err (reads.Frame c fault)) after) row
-      read_refused o which fault after e is =
-          reads_as (Err (reads.Frame c fault)) after (opens ∙ ap (opened c) (sym which) ∙ opened_err c o fault e) is
+  module _ (places : List ℕ) (all : length places ≡ V.b) where
+    -- a read of the cell answers r
+    pub read_as : (r : Result Verdict ReadFault) (after : List ℕ) → opened c (cell_opening V c row) ≡ r → after ≡ received V row c places r → Does V row (read c places) (got r after) row
+    read_as r after e is =
+        let told : read_answer V row c (length places) ≡ r = cond-true (ltb c (count V row)) _ _ below ∙ cond-true (eqb (length places) V.b) _ _ (eq-eqb (length places) V.b all) ∙ e in
+        (ap₂ got (sym told) (is ∙ ap (received V row c places) (sym told)), refl)
 
   module _ (pattern : List ℕ) where
     injects_as : (r : Result (Unit {0}) InjectFault) → inject_answer V row c pattern ≡ r → Does V row (inject c pattern) (struck r) (injected V row c pattern r)
     injects_as r e = (ap struck (sym e), ap (injected V row c pattern) (sym e))
 
-    pub inject_no_cell : count V row ≤ c → Does V row (inject c pattern) (struck (Err injects.Cell)) row
-    inject_no_cell h = injects_as (Err injects.Cell) (cond-false (ltb c (count V row)) _ _ (le-ltb c (count V row) h))
+    pub inject_no_size : (length pattern ≡ length bytes → ⊥) → Does V row (inject c pattern) (struck (Err injects.Size)) row
+    inject_no_size other =
+        injects_as (Err injects.Size) (cond-true (ltb c (count V row)) _ _ below ∙ cond-false (eqb (length pattern) (cell_bytes V)) _ _ (ne_eqb (length pattern) (cell_bytes V) (λ e. other (e ∙ sym here.long))))
 
-    pub inject_no_size : c < count V row → (length pattern ≡ cell_bytes V → ⊥) → Does V row (inject c pattern) (struck (Err injects.Size)) row
-    inject_no_size h other =
-        injects_as (Err injects.Size) (cond-true (ltb c (count V row)) _ _ (lt-ltb c (count V row) h) ∙ cond-false (eqb (length pattern) (cell_bytes V)) _ _ (ne_eqb (length pattern) (cell_bytes V) other))
-
-    pub inject_done : c < count V row → length pattern ≡ cell_bytes V → Does V row (inject c pattern) (struck (Ok tt)) (with_cell V c (xored (cell V c row) pattern) row)
-    inject_done h all =
-        injects_as (Ok tt) (cond-true (ltb c (count V row)) _ _ (lt-ltb c (count V row) h) ∙ cond-true (eqb (length pattern) (cell_bytes V)) _ _ (eq-eqb (length pattern) (cell_bytes V) all))
+    pub inject_done : (after : List ℕ) → length pattern ≡ length bytes → after ≡ with_cell V c (xored bytes pattern) row → Does V row (inject c pattern) (struck (Ok tt)) after
+    inject_done after all is =
+        let told : inject_answer V row c pattern ≡ Ok tt = cond-true (ltb c (count V row)) _ _ below ∙ cond-true (eqb (length pattern) (cell_bytes V)) _ _ (eq-eqb (length pattern) (cell_bytes V) (all ∙ here.long)) in
+        (ap struck (sym told), is ∙ ap (λ xs. with_cell V c (xored xs pattern) row) here.is ∙ ap (injected V row c pattern) (sym told))

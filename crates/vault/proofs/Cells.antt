@@ -1,6 +1,6 @@
 -- What the calls do to one cell: which calls keep it, and what it holds after a write, a pattern and a sweep.
 -- Assumes nothing.
-use Rattle.std.proofs.Common.{◌≡◌, ℕ, ◌<◌, Bool, true, false, cond, eqb, ltb, ◌⊎◌, List, length, Ok, Err, Result, sym, refl, ap, ◌∙◌, subst, ap₂, inl, inr, arith}
+use Rattle.std.proofs.Common.{◌≡◌, ℕ, ◌<◌, Bool, true, false, cond, eqb, ltb, ◌⊎◌, List, length, Ok, Err, Result, sym, refl, ap, ◌∙◌, subst, ap₂, inl, inr}
 use Rattle.std.proofs.lemmas.Bool.{ltb-true, eqb-true}
 use Rattle.bits.specs.Rows.{xored}
 use Rattle.bits.proofs.Rows.{length_xored}
@@ -22,8 +22,8 @@ count_kept V row after e = ap (λ n. cond (vault_fits V n) V.cells 0) e
 -- two tests and what is asked past them
 pub two_tests : {X E : Type 0} (x y : Bool) (rest : Result X E) (f g : E) (u : X) → cond x (cond y rest (Err f)) (Err g) ≡ Ok u → (x ≡ true) × (y ≡ true) × (rest ≡ Ok u)
 two_tests true true rest f g u is = (refl, refl, is)
-two_tests true false rest f g u is = let z : ◌≡◌ {A = ℕ} 0 1 = cc in absurd (omega arith)
-two_tests false y rest f g u is = let z : ◌≡◌ {A = ℕ} 0 1 = cc in absurd (omega arith)
+two_tests true false rest f g u is = cc
+two_tests false y rest f g u is = cc
 
 -- what an accepted write of ys with a into cell c leaves true of every later row
 pub record Written (V : Vault) (c : ℕ) (ys : List ℕ) (a : ℕ) (row : List ℕ) : Type 0 where
@@ -37,7 +37,7 @@ written_kept V c ys a row after e h =
 
 sealed : (s : Result ℕ SealFault) → write_sealed s ≡ Ok tt → Ok tt ≡ seal_answer s
 sealed (Ok N) is = refl
-sealed (Err fault) is = let z : ◌≡◌ {A = ℕ} 0 1 = cc in absurd (omega arith)
+sealed (Err fault) is = cc
 
 pub write_accepted : (V : Vault) (row : List ℕ) (c : ℕ) (ys : List ℕ) (a : ℕ) → write_answer V row c ys a ≡ Ok tt → Written V c ys a row
 write_accepted V row c ys a told =

@@ -1,6 +1,7 @@
 pub mod CallsDone
 pub mod Cells
 pub mod Frames
+pub mod Held
 pub mod Hits
 pub mod Law
 pub mod Patterns

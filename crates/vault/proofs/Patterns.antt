@@ -1,6 +1,6 @@
 -- The patterns on a cell that no sweep and no write comes between: what they flip is settled by the calls alone.
 -- Assumes nothing.
-use Rattle.std.proofs.Common.{◌≡◌, ℕ, ◌^◌, ◌<◌, Bool, true, false, cond, ◌&&◌, eqb, List, [], ◌∷◌, map, length, Ok, sym, refl, ap, ◌∙◌, subst, ap₂, ⊎_elim, mod-lt, arith, pow_pos}
+use Rattle.std.proofs.Common.{◌≡◌, ℕ, ◌^◌, ◌<◌, Bool, true, false, cond, ◌&&◌, eqb, List, [], ◌∷◌, map, length, Ok, sym, refl, ap, ◌∙◌, subst, ap₂, ⊎_elim, mod-lt, pow_pos}
 use lib.Bits.{bit_xor, xor_lt}
 use Rattle.std.specs.List.{AllByRecursion}
 use Rattle.std.proofs.lemmas.Bool.{and_parts, and_from, eqb-true, eq-eqb, lt-ltb, cases_Bool, both_ways, cond-true, cond-false, cond_both}
@@ -54,10 +54,10 @@ module _ (V : Vault) (laws : Laws V.K.m V.K.mul) (columns : Columns.Laws V.K.col
   after_call : (call : Call) (answer : Answer) → Proper call → Spares c (record { call = call; answer = answer }) → (f : ℕ) (row after : List ℕ) → Does V row call answer after → Holds V c ys a f row → Holds V c ys a (with_call V c f call) after
   after_call (write d zs s) answer proper spared f row after does h =
       after_other V laws columns c ys a (record { call = write d zs s; answer = answer }) spared
-      (λ p struck. let e = (told_strike struck).0 in let z : ◌≡◌ {A = ℕ} 0 1 = cc in omega arith) f row after does h
+      (λ p struck. let e = (told_strike struck).0 in cc) f row after does h
   after_call (read d places) answer proper spared f row after does h =
       after_other V laws columns c ys a (record { call = read d places; answer = answer }) spared
-      (λ p struck. let e = (told_strike struck).0 in let z : ◌≡◌ {A = ℕ} 0 1 = cc in omega arith) f row after does h
+      (λ p struck. let e = (told_strike struck).0 in cc) f row after does h
   after_call sweep answer proper spared f row after does h = absurd (spared.unswept refl)
   after_call (inject d pattern) answer proper spared f row after does h = ⊎_elim hit missed (cases_Bool (hits V c d pattern))
     where

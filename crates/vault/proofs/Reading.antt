@@ -1,6 +1,6 @@
 -- What a read answers, by what the cell opens to.
 -- Assumes nothing.
-use Rattle.std.proofs.Common.{◌≡◌, ℕ, ◌<◌, Bool, true, false, cond, eqb, ltb, List, length, Ok, Err, Result, sym, refl, ap, ◌∙◌, subst, arith}
+use Rattle.std.proofs.Common.{◌≡◌, ℕ, ◌<◌, Bool, true, false, cond, eqb, ltb, List, length, Ok, Err, Result, sym, refl, ap, ◌∙◌, subst}
 use Rattle.std.proofs.lemmas.Bool.{cond-true, lt-ltb, eq-eqb}
 use Rattle.frame.specs.Opening.{Outcome, clean, mended, refused, filled}
 use Rattle.frame.specs.Promises.{OtherWord}
@@ -41,7 +41,7 @@ module _ (V : Vault) (row : List ℕ) (c : ℕ) (places : List ℕ) (answer : An
       by_outcome : (o : Outcome) (verdict : Verdict) → opened c o ≡ Ok verdict → (filled o places ≡ ys → ⊥) → OtherWord ys o
       by_outcome (clean zs s) verdict is apart = apart
       by_outcome (mended part zs s) verdict is apart = apart
-      by_outcome (refused fault) verdict is apart = let z : ◌≡◌ {A = ℕ} 0 1 = cc in absurd (omega arith)
+      by_outcome (refused fault) verdict is apart = cc
 
       parts : (t : Result Verdict ReadFault) (verdict : Verdict) (xs zs : List ℕ) → got (Ok verdict) zs ≡ got t xs → (t ≡ Ok verdict) × (xs ≡ zs)
       parts t verdict xs zs e = (cc, cc)

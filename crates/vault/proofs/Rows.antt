@@ -1,6 +1,6 @@
 -- Cells in a row.
 -- Assumes nothing.
-use Rattle.std.proofs.Common.{◌≡◌, ℕ, ◌+◌, ◌-◌, ◌*◌, ◌<◌, ◌≤◌, Bool, true, false, cond, ◌&&◌, leb, List, ◌++◌, length, take, drop, sym, refl, ap, ◌∙◌, ap₂, ⊎_elim, append_assoc, arith, length-append, length-drop, take-append-drop, length-take-le, drop-drop, take_at, drop_at}
+use Rattle.std.proofs.Common.{◌≡◌, ℕ, ◌+◌, ◌-◌, ◌*◌, ◌<◌, ◌≤◌, Bool, true, false, cond, ◌&&◌, leb, List, ◌++◌, length, take, drop, sym, refl, ap, ◌∙◌, ap₂, ⊎_elim, append_assoc, arith, length-append, length-drop, take-append-drop, length-take-le, drop-drop, take_at, drop_at, take-add}
 use lib.Seq.{take-append-le, drop-append-le}
 use Rattle.std.proofs.lemmas.Bool.{and_parts, leb-true, cases_order}
 use Rattle.frame.specs.Code.{fits, sized}
@@ -88,4 +88,8 @@ module _ (V : Vault) (row : List ℕ) (c : ℕ) (inside : c < count V row) where
         after : c < d → cell V d (with_cell V c bytes row) ≡ cell V d row
         after h = ap (take (cell_bytes V)) (put_after row bytes (c * cell_bytes V) (cell_bytes V) long cell_inside (d * cell_bytes V) (apart (cell_bytes V) c d h))
 
--- the lowest n bytes of a number
+-- a cell with its own bytes
+pub with_own : (V : Vault) (c : ℕ) (row : List ℕ) → with_cell V c (cell V c row) row ≡ row
+with_own V c row =
+    let F = cell_bytes V in
+    ap (λ xs. xs ++ drop (c * F + F) row) (sym (take-add (c * F) F row)) ∙ take-append-drop (c * F + F) row

@@ -1,6 +1,6 @@
 -- The cells of a vault in the row of its bank.
 -- Assumes nothing.
-use Rattle.std.specs.Prelude.{ℕ, ◌+◌, ◌*◌, Bool, cond, ◌&&◌, List, ◌++◌, length, take, drop, nat_le}
+use Rattle.std.specs.Prelude.{◌≡◌, ℕ, ◌+◌, ◌*◌, ◌<◌, Bool, cond, ◌&&◌, List, ◌++◌, length, take, drop, Some, None, Option, nat_le}
 use Rattle.frame.specs.Code.{Code, fits, sized, frame_bytes}
 
 -- a vault: its code, the blocks of a word, and the cells that were asked for
@@ -21,6 +21,10 @@ abbrev pub vault_fits : Vault → ℕ → Bool
 vault_fits V bytes =
     fits V.K && sized V.b && nat_le 1 V.cells && nat_le V.cells 1024 && nat_le (V.cells * cell_bytes V) bytes
 
+-- the bytes of a cell, where the parts fit
+abbrev pub cell_length : Vault → ℕ → Option ℕ
+cell_length V bytes = cond (vault_fits V bytes) (Some (cell_bytes V)) None
+
 -- the cells that there are over a row: none where the parts do not fit
 abbrev pub count : Vault → List ℕ → ℕ
 count V row = cond (vault_fits V (length row)) V.cells 0
@@ -31,3 +35,9 @@ cell V c row = take (cell_bytes V) (drop (c * cell_bytes V) row)
 
 abbrev pub with_cell : Vault → ℕ → List ℕ → List ℕ → List ℕ
 with_cell V c bytes row = take (c * cell_bytes V) row ++ bytes ++ drop (c * cell_bytes V + cell_bytes V) row
+
+-- cell c is below the count, and these are its bytes
+pub record IsCell (V : Vault) (c : ℕ) (row bytes : List ℕ) : Type 0 where
+  pub below : c < count V row
+  pub is : bytes ≡ cell V c row
+  pub long : length bytes ≡ cell_bytes V

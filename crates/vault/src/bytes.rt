@@ -1,41 +1,29 @@
 // Runs of bytes in a bank, reached by its get and put alone.
-ghost use Rattle.std.specs.Prelude.{◌≡◌, ◌+◌, ◌<◌, ◌≤◌, length, take, drop, slice_index, slice_set};
+ghost use Rattle.std.specs.Prelude.{◌≡◌, ◌+◌, ◌≤◌, length, take, drop};
 ghost use Rattle.std.proofs.Math.Seq.{paste};
 ghost use Rattle.bits.specs.Rows.{xored};
 
+use arrayvec::ArrayVec;
 use bank::Bank;
 
-// The byte at a place inside the bank.
-fn byte_at<B: Bank>(bank: &B, place: usize) -> u8
-    requires { place < length (B.Bank.row bank.now) }
-    ensures { result ≡ slice_index (B.Bank.row bank.now) place }
-{
-    match bank.get(place) {
-        Ok(byte) => byte,
-        Err(_) => unreachable(),
-    }
-}
+// The bytes of the longest frame: 18 parts of 24 bits, a sum of 8 bits and the parity bit.
+const LONGEST: usize = 56;
 
-// Puts a byte at a place inside the bank.
-fn put_byte<B: Bank>(bank: &mut B, place: usize, byte: u8)
-    requires { place < length (B.Bank.row bank.old) }
-    ensures changed { B.Bank.row bank.new ≡ slice_set (B.Bank.row bank.old) place byte }
-    ensures seams { B.seams bank.new ≡ B.seams bank.old }
-{
-    match bank.put(place, byte) {
-        Ok(()) => {}
-        Err(_) => unreachable(),
-    }
-}
+// The bytes of one cell, in memory of a fixed size.
+pub(crate) type CellBytes = ArrayVec<u8, LONGEST>;
 
-// The bytes of the bank from `start` on, as many as `bytes` holds.
-pub(crate) fn fetch<B: Bank>(bank: &B, start: usize, bytes: &mut [u8])
-    requires { start + length bytes.old ≤ length (B.Bank.row bank.now) }
-    ensures { bytes.new ≡ take (length bytes.old) (drop start (B.Bank.row bank.now)) }
+// The bytes of the bank from `start` on, so many of them.
+pub(crate) fn fetch<B: Bank>(bank: &B, start: usize, len: usize) -> CellBytes
+    requires inside { start + len ≤ length (B.Bank.row bank.now) }
+    requires short { len ≤ LONGEST }
+    ensures { result.items ≡ take len (drop start (B.Bank.row bank.now)) }
 {
-    for (i, byte) in bytes.iter_mut().enumerate() {
-        *byte = byte_at(bank, start + i);
+    let mut bytes = CellBytes::new();
+    // a bank is no slice: its bytes are had one by one
+    for place in start..start + len {
+        bytes.push(bank.get(place).unwrap());
     }
+    bytes
 }
 
 // Puts `bytes` into the bank from `start` on.
@@ -45,7 +33,7 @@ pub(crate) fn store<B: Bank>(bank: &mut B, start: usize, bytes: &[u8])
     ensures seams { B.seams bank.new ≡ B.seams bank.old }
 {
     for (i, byte) in bytes.iter().enumerate() {
-        put_byte(bank, start + i, *byte);
+        bank.put(start + i, *byte).unwrap();
     }
 }
 
@@ -54,6 +42,7 @@ pub(crate) fn xor_into(bytes: &mut [u8], pattern: &[u8])
     requires { length bytes.old ≡ length pattern.now }
     ensures { bytes.new ≡ xored bytes.old pattern.now }
 {
+    // by the index: of bytes that are written through a `zip` no proof knows the values
     for (i, byte) in bytes.iter_mut().enumerate() {
         *byte ^= pattern[i];
     }

@@ -1,13 +1,12 @@
-// The calls on one cell: write, read and inject.
+// The calls on one cell: write, read and inject. That a refusal changes nothing is a clause of each call that writes.
 ghost use Rattle.std.specs.Prelude.{◌≡◌, OnErr};
-ghost use Rattle.frame.specs.Code.{code};
 ghost use Rattle.salt.specs.Token.{salt_number};
-ghost use Rattle.vault.specs.Cells.{vault};
-ghost use Rattle.vault.specs.Calls.{Does, write as write_call, read as read_call, inject as inject_call, wrote, got, struck};
+ghost use Rattle.vault.specs.Calls.{write as write_call, read as read_call, inject as inject_call, wrote, got, struck};
+ghost use Rattle.vault.specs.Held.{Performs, Keeps};
 
 use crate::answers::{InjectFault, ReadFault, WriteFault};
-use crate::bytes::{fetch, store, xor_into};
-use crate::parts::{LONGEST, Vault};
+use crate::bytes::xor_into;
+use crate::parts::Vault;
 use bank::Bank;
 use columns::ColumnSet;
 use field::Field;
@@ -17,12 +16,12 @@ use salt::Salt;
 impl<F: Field, C: ColumnSet, B: Bank> Vault<F, C, B> {
     // Seals a word and a salt into a cell. A refusal leaves the vault as it was; the salt is used up either way.
     pub fn write(&mut self, cell: usize, word: &[u32], salt: Salt) -> Result<(), WriteFault>
-        ensures does { let V = vault (code F.m F.mul (C.columns self.old.set) (C.height self.old.set)) self.old.blocks self.old.cells in Does V (B.Bank.row self.old.bank) (write_call cell word.now (salt_number salt)) (wrote result) (B.Bank.row self.new.bank) }
-        ensures kept { (self.new.set ≡ self.old.set) × ((self.new.blocks ≡ self.old.blocks) × (self.new.cells ≡ self.old.cells)) }
-        ensures seams { B.seams self.new.bank ≡ B.seams self.old.bank }
+        ensures does { Performs F.Field C.ColumnSet B.Bank self.old (write_call cell word.now (salt_number salt)) (wrote result) self.new }
+        ensures kept { Keeps B.Bank self.old self.new }
         ensures refused { OnErr result (self.new ≡ self.old) }
     {
-        let Some(span) = self.locate(cell) else {
+        // by `let .. else`, with no `?`: the salt is a token, and each way out spends it or throws it away by name
+        let Some(mut frame) = self.fetch(cell) else {
             salt.discard();
             return Err(WriteFault::Cell);
         };
@@ -30,57 +29,38 @@ impl<F: Field, C: ColumnSet, B: Bank> Vault<F, C, B> {
             salt.discard();
             return Err(WriteFault::Size);
         }
-        let f = span.bytes;
-        let mut room = [0u8; LONGEST];
-        let frame = &mut room[0..f];
-        match seal::<F, C>(&self.set, word, salt, frame) {
-            Ok(()) => {
-                store(&mut self.bank, span.start, frame);
-                Ok(())
-            }
-            Err(fault) => Err(WriteFault::Seal(fault)),
-        }
+        // the new frame takes the place of the one that lies there
+        seal::<F, C>(&self.set, word, salt, &mut frame)?;
+        self.store(cell, &frame);
+        Ok(())
     }
 
     // Opens a cell into a receiving row. A refusal leaves the row as it was.
     pub fn read(&self, cell: usize, places: &mut [u32]) -> Result<Verdict, ReadFault>
-        ensures does { let V = vault (code F.m F.mul (C.columns self.now.set) (C.height self.now.set)) self.now.blocks self.now.cells in Does V (B.Bank.row self.now.bank) (read_call cell places.old) (got result places.new) (B.Bank.row self.now.bank) }
+        ensures does { Performs F.Field C.ColumnSet B.Bank self.now (read_call cell places.old) (got result places.new) self.now }
     {
-        let Some(span) = self.locate(cell) else {
-            return Err(ReadFault::Cell);
-        };
+        let frame = self.fetch(cell).ok_or(ReadFault::Cell)?;
         if places.len() != self.blocks {
             return Err(ReadFault::Size);
         }
-        let f = span.bytes;
-        let mut room = [0u8; LONGEST];
-        let frame = &mut room[0..f];
-        fetch(&self.bank, span.start, frame);
-        match open::<F, C>(&self.set, frame, places) {
-            Ok(opened) => Ok(opened.0),
-            Err(fault) => Err(ReadFault::Frame(cell, fault)),
-        }
+        let (verdict, _) = open::<F, C>(&self.set, &frame, places).map_err(|fault| ReadFault::Frame(
+            cell, fault,
+        ))?;
+        Ok(verdict)
     }
 
     // Exclusive-ors a pattern onto a cell. A refusal leaves the vault as it was.
     pub fn inject(&mut self, cell: usize, pattern: &[u8]) -> Result<(), InjectFault>
-        ensures does { let V = vault (code F.m F.mul (C.columns self.old.set) (C.height self.old.set)) self.old.blocks self.old.cells in Does V (B.Bank.row self.old.bank) (inject_call cell pattern.now) (struck result) (B.Bank.row self.new.bank) }
-        ensures kept { (self.new.set ≡ self.old.set) × ((self.new.blocks ≡ self.old.blocks) × (self.new.cells ≡ self.old.cells)) }
-        ensures seams { B.seams self.new.bank ≡ B.seams self.old.bank }
+        ensures does { Performs F.Field C.ColumnSet B.Bank self.old (inject_call cell pattern.now) (struck result) self.new }
+        ensures kept { Keeps B.Bank self.old self.new }
         ensures refused { OnErr result (self.new ≡ self.old) }
     {
-        let Some(span) = self.locate(cell) else {
-            return Err(InjectFault::Cell);
-        };
-        let f = span.bytes;
-        if pattern.len() != f {
+        let mut bytes = self.fetch(cell).ok_or(InjectFault::Cell)?;
+        if pattern.len() != bytes.len() {
             return Err(InjectFault::Size);
         }
-        let mut room = [0u8; LONGEST];
-        let bytes = &mut room[0..f];
-        fetch(&self.bank, span.start, bytes);
-        xor_into(bytes, pattern);
-        store(&mut self.bank, span.start, bytes);
+        xor_into(&mut bytes, pattern);
+        self.store(cell, &bytes);
         Ok(())
     }
 }

@@ -1,18 +1,20 @@
 // A vault and its parts: a field, a column set, a bank, the blocks of a word, and the cells that are asked for.
-ghost use Rattle.std.specs.Prelude.{◌≡◌, ◌+◌, ◌*◌, ◌<◌, ◌≤◌, true, false, length, IfSome, if◌then◌else◌, MatchOption};
-ghost use Rattle.frame.specs.Code.{code};
+ghost use Rattle.std.specs.Prelude.{◌≡◌, ◌<◌, length, if◌then◌else◌};
+ghost use Rattle.frame.specs.Code.{code_of};
 ghost use Rattle.frame.specs.Faults.{fit_number};
-ghost use Rattle.vault.specs.Cells.{vault, vault_fits, cell_bytes, count};
+ghost use Rattle.vault.specs.Cells.{vault, vault_fits, cell_bytes, cell_length, count};
+ghost use Rattle.vault.specs.Held.{vault_of, Fetches, PutsCell, Keeps};
 ghost use Rattle.vault.specs.Law.{Law};
 
+use crate::bytes::{self, CellBytes};
 use bank::Bank;
 use columns::ColumnSet;
 use field::Field;
 use frame::{Unfit, frame_len};
 use std::marker::PhantomData;
 
-// The bytes of the longest frame: 18 parts of 24 bits, a sum of 8 bits and the parity bit.
-pub(crate) const LONGEST: usize = 56;
+// The most cells of a vault.
+const MOST_CELLS: usize = 1024;
 
 // Cells of frames over any field, column set and bank.
 pub struct Vault<F: Field, C: ColumnSet, B: Bank> {
@@ -23,18 +25,11 @@ pub struct Vault<F: Field, C: ColumnSet, B: Bank> {
     pub(crate) cells: usize,
 }
 
-// Where a cell lies in the bank.
-#[derive(Clone, Copy)]
-pub(crate) struct Span {
-    pub start: usize,
-    pub bytes: usize,
-}
-
 impl<F: Field, C: ColumnSet, B: Bank> Vault<F, C, B> {
     // A vault of these parts; the bank's content stays as it is. Of all that is ever done with it the law holds.
     pub fn new(set: C, bank: B, blocks: usize, cells: usize) -> Self
         ensures parts { (result.set ≡ set) × ((result.bank ≡ bank) × ((result.blocks ≡ blocks) × (result.cells ≡ cells))) }
-        ensures law { Law (vault (code F.m F.mul (C.columns set) (C.height set)) blocks cells) }
+        ensures law { Law (vault (code_of F.Field C.ColumnSet set) blocks cells) }
     {
         Vault {
             field: PhantomData,
@@ -61,47 +56,46 @@ impl<F: Field, C: ColumnSet, B: Bank> Vault<F, C, B> {
 
     // The bytes of a cell, where the parts fit each other and the bank.
     fn cell_len(&self) -> Option<usize>
-        ensures { let V = vault (code F.m F.mul (C.columns self.now.set) (C.height self.now.set)) self.now.blocks self.now.cells in let fits = vault_fits V (length (B.Bank.row self.now.bank)) in MatchOption result (fits ≡ false) (λ f. (fits ≡ true) × (f ≡ cell_bytes V)) }
+        ensures { result ≡ cell_length (vault_of F.Field C.ColumnSet self.now) (length (B.Bank.row self.now.bank)) }
     {
         let bytes = frame_len::<F, C>(&self.set, self.blocks)?;
-        if self.cells < 1 || self.cells > 1024 || self.cells * bytes > self.bank.len() {
-            return None;
-        }
-        Some(bytes)
+        let fits = (1..=MOST_CELLS).contains(&self.cells) && self.cells * bytes <= self.bank.len();
+        fits.then_some(bytes)
     }
 
     // Whether the parts fit each other and the bank, and keep their limits.
     pub fn fit(&self) -> Result<(), Unfit>
-        ensures { let V = vault (code F.m F.mul (C.columns self.now.set) (C.height self.now.set)) self.now.blocks self.now.cells in fit_number result ≡ (if vault_fits V (length (B.Bank.row self.now.bank)) then 0 else 9) }
+        ensures { fit_number result ≡ (if vault_fits (vault_of F.Field C.ColumnSet self.now) (length (B.Bank.row self.now.bank)) then 0 else 9) }
     {
-        match self.cell_len() {
-            Some(_) => Ok(()),
-            None => Err(Unfit),
-        }
+        self.cell_len().ok_or(Unfit)?;
+        Ok(())
     }
 
     // How many cells there are: none where the parts do not fit.
     pub(crate) fn cell_count(&self) -> usize
-        ensures { let V = vault (code F.m F.mul (C.columns self.now.set) (C.height self.now.set)) self.now.blocks self.now.cells in result ≡ count V (B.Bank.row self.now.bank) }
+        ensures { result ≡ count (vault_of F.Field C.ColumnSet self.now) (B.Bank.row self.now.bank) }
     {
-        match self.cell_len() {
-            Some(_) => self.cells,
-            None => 0,
-        }
+        self.cell_len().map_or(0, |_| self.cells)
     }
 
-    // Where a cell lies, if it is below the count.
-    pub(crate) fn locate(&self, cell: usize) -> Option<Span>
-        ensures lies { let V = vault (code F.m F.mul (C.columns self.now.set) (C.height self.now.set)) self.now.blocks self.now.cells in MatchOption result (count V (B.Bank.row self.now.bank) ≤ cell) (λ s. (cell < count V (B.Bank.row self.now.bank)) × (s.start ≡ cell * cell_bytes V) × (s.bytes ≡ cell_bytes V)) }
-        ensures inside { IfSome result (λ s. (s.start + s.bytes ≤ length (B.Bank.row self.now.bank)) × (s.bytes ≤ 56)) }
+    // The bytes of a cell, if it is below the count.
+    pub(crate) fn fetch(&self, cell: usize) -> Option<CellBytes>
+        ensures { Fetches (vault_of F.Field C.ColumnSet self.now) cell (B.Bank.row self.now.bank) result }
     {
-        let bytes = self.cell_len()?;
+        let len = self.cell_len()?;
         if cell >= self.cells {
             return None;
         }
-        Some(Span {
-            start: cell * bytes,
-            bytes,
-        })
+        Some(bytes::fetch(&self.bank, cell * len, len))
+    }
+
+    // Puts the bytes of a cell below the count.
+    pub(crate) fn store(&mut self, cell: usize, bytes: &[u8])
+        requires below { cell < count (vault_of F.Field C.ColumnSet self.old) (B.Bank.row self.old.bank) }
+        requires long { length bytes.now ≡ cell_bytes (vault_of F.Field C.ColumnSet self.old) }
+        ensures stored { PutsCell F.Field C.ColumnSet B.Bank self.old cell bytes.now self.new }
+        ensures kept { Keeps B.Bank self.old self.new }
+    {
+        bytes::store(&mut self.bank, cell * bytes.len(), bytes);
     }
 }

@@ -1,80 +1,48 @@
 // The sweep: every cell is opened, and a mended frame is sealed anew.
 ghost use Rattle.std.specs.Prelude.{◌≡◌, ◌<◌};
-ghost use Rattle.frame.specs.Code.{code};
-ghost use Rattle.vault.specs.Cells.{vault, count, with_cell};
-ghost use Rattle.vault.specs.Calls.{Does, sweep as sweep_call, counted, cell_opening, swept_cell, clean_count, mended_count, refused_count};
+ghost use Rattle.vault.specs.Cells.{count};
+ghost use Rattle.vault.specs.Calls.{sweep as sweep_call, counted};
+ghost use Rattle.vault.specs.Held.{vault_of, Performs, SweepsCell, Keeps};
+ghost use Rattle.vault.specs.Tally.{mended_found};
 
 use crate::answers::Counts;
-use crate::bytes::{fetch, store};
-use crate::parts::{LONGEST, Vault};
+use crate::parts::Vault;
 use bank::Bank;
 use columns::ColumnSet;
 use field::Field;
-use frame::{Verdict, renew};
+use frame::{OpenFault, Verdict, renew};
+
+// The most blocks of a word.
+const MOST_BLOCKS: usize = 16;
 
 impl<F: Field, C: ColumnSet, B: Bank> Vault<F, C, B> {
-    // Sweeps one cell, and counts it. A cell that is not mended is not written.
-    fn mend(&mut self, cell: usize) -> Counts
-        requires { let V = vault (code F.m F.mul (C.columns self.old.set) (C.height self.old.set)) self.old.blocks self.old.cells in cell < count V (B.Bank.row self.old.bank) }
-        ensures swept { let V = vault (code F.m F.mul (C.columns self.old.set) (C.height self.old.set)) self.old.blocks self.old.cells in B.Bank.row self.new.bank ≡ with_cell V cell (swept_cell V cell (B.Bank.row self.old.bank)) (B.Bank.row self.old.bank) }
-        ensures counts { let V = vault (code F.m F.mul (C.columns self.old.set) (C.height self.old.set)) self.old.blocks self.old.cells in let o = cell_opening V cell (B.Bank.row self.old.bank) in (result.clean ≡ clean_count o) × ((result.mended ≡ mended_count o) × (result.refused ≡ refused_count o)) }
-        ensures kept { (self.new.set ≡ self.old.set) × ((self.new.blocks ≡ self.old.blocks) × (self.new.cells ≡ self.old.cells)) }
-        ensures seams { B.seams self.new.bank ≡ B.seams self.old.bank }
-        ensures still { result.mended ≡ 0 → self.new ≡ self.old }
+    // Sweeps one cell, and answers what it was. A cell that is not mended is not written.
+    fn mend(&mut self, cell: usize) -> Result<Verdict, OpenFault>
+        requires { cell < count (vault_of F.Field C.ColumnSet self.old) (B.Bank.row self.old.bank) }
+        ensures swept { SweepsCell F.Field C.ColumnSet B.Bank self.old cell result self.new }
+        ensures kept { Keeps B.Bank self.old self.new }
+        ensures still { mended_found result ≡ 0 → self.new ≡ self.old }
     {
-        let span = match self.locate(cell) {
-            Some(span) => span,
-            None => unreachable(),
-        };
-        let f = span.bytes;
-        let mut room = [0u8; LONGEST];
-        let frame = &mut room[0..f];
-        fetch(&self.bank, span.start, frame);
-        let b = self.blocks;
-        let mut places = [0u32; 16];
-        let word = &mut places[0..b];
-        match renew::<F, C>(&self.set, frame, word) {
-            Err(_) => Counts {
-                clean: 0,
-                mended: 0,
-                refused: 1,
-            },
-            Ok(opened) => match opened.0 {
-                Verdict::Clean => Counts {
-                    clean: 1,
-                    mended: 0,
-                    refused: 0,
-                },
-                Verdict::Mended(_) => {
-                    store(&mut self.bank, span.start, frame);
-                    Counts {
-                        clean: 0,
-                        mended: 1,
-                        refused: 0,
-                    }
-                }
-            },
+        let mut frame = self.fetch(cell).unwrap();
+        // memory of a fixed size for the most blocks
+        let mut word = [0; MOST_BLOCKS];
+        let (verdict, _) = renew::<F, C>(&self.set, &mut frame, &mut word[..self.blocks])?;
+        if let Verdict::Mended(_) = verdict {
+            self.store(cell, &frame);
         }
+        Ok(verdict)
     }
 
     // Goes through the cells in order, seals each mended frame anew, and counts the cells by what they were.
     // A sweep that mends none leaves the vault as it was.
     pub fn sweep(&mut self) -> Counts
-        ensures does { let V = vault (code F.m F.mul (C.columns self.old.set) (C.height self.old.set)) self.old.blocks self.old.cells in Does V (B.Bank.row self.old.bank) sweep_call (counted result) (B.Bank.row self.new.bank) }
-        ensures kept { (self.new.set ≡ self.old.set) × ((self.new.blocks ≡ self.old.blocks) × (self.new.cells ≡ self.old.cells)) }
-        ensures seams { B.seams self.new.bank ≡ B.seams self.old.bank }
+        ensures does { Performs F.Field C.ColumnSet B.Bank self.old sweep_call (counted result) self.new }
+        ensures kept { Keeps B.Bank self.old self.new }
         ensures still { result.mended ≡ 0 → self.new ≡ self.old }
     {
-        let mut counts = Counts {
-            clean: 0,
-            mended: 0,
-            refused: 0,
-        };
+        let mut counts = Counts::default();
         for cell in 0..self.cell_count() {
-            let found = self.mend(cell);
-            counts.clean += found.clean;
-            counts.mended += found.mended;
-            counts.refused += found.refused;
+            counts.add(self.mend(cell));
         }
         counts
     }

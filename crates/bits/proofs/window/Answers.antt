@@ -16,9 +16,8 @@ digits xs i h =
     omega (arith, lower xs i (i + 1) 24 h (omega arith), lower xs (i + 1) (i + 2) 16 h (omega arith), lower xs (i + 2) (i + 3) 8 h (omega arith), byte_part xs (i + 3) h)
 
 pub returns-then-i-row : goal.returns-then-i-row
-returns-then-i-row c = c.four_bytes.ensures ∙ digits c.args.row.now c.args.i c.type_inv.row
+returns-then-i-row c = omega (arith, c.from_le_bytes.ensures, digits c.args.row.now c.args.i c.type_inv.row)
 
 pub returns : goal.returns
 returns c =
-    c.four_bytes-2.ensures
-    ∙ simp (c.byte_at.ensures, c.byte_at-2.ensures, c.byte_at-3.ensures, c.byte_at-4.ensures) (digits c.args.row.now c.args.i c.type_inv.row)
+    omega (arith, c.from_le_bytes-2.ensures, c.byte_at.ensures, c.byte_at-2.ensures, c.byte_at-3.ensures, c.byte_at-4.ensures, digits c.args.row.now c.args.i c.type_inv.row)

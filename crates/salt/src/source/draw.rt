@@ -12,29 +12,28 @@ impl Noise<'_> {
     // The place is behind its group after; it stays where there is none.
     pub fn draw<F: Field>(&mut self, b: usize) -> Result<Salt, DrawFault>
         ensures kept { self.new.bytes.now ≡ self.old.bytes.now }
-        ensures drawn { Draws F.m F.mul b self.old.bytes.now self.old.place result self.new.place }
+        ensures drawn { Draws F.WIDTH F.mul b self.old.bytes.now self.old.place result self.new.place }
     {
-        let width = F::degree();
-        if width < 3 || width > 24 {
+        let width = F::WIDTH;
+        if !(3..=24).contains(&width) {
             return Err(DrawFault::Unfit);
         }
-        if b < 1 || b > 16 {
+        if !(1..=16).contains(&b) {
             return Err(DrawFault::Blocks);
         }
-        let size = (width as usize + 7) / 8;
-        let mut place = self.place;
+        let size = width.div_ceil(8) as usize;
+        let mut rest = &self.bytes[self.place..];
+        // the project asks for a loop that passes groups over inside and yields the salt by `break`
         let salt = loop {
-            if self.bytes.len() - place < size {
-                return Err(DrawFault::NoNoise);
-            }
-            let candidate = get_bits(&self.bytes[place..place + size], 0, width);
-            place += size;
+            let (group, after) = rest.split_at_checked(size).ok_or(DrawFault::NoNoise)?;
+            rest = after;
+            let candidate = get_bits(group, 0, width);
             if !admits::<F>(candidate, b) {
                 continue;
             }
             break Salt { value: candidate };
         };
-        self.place = place;
+        self.place = self.bytes.len() - rest.len();
         Ok(salt)
     }
 }

@@ -2,11 +2,8 @@ use Rattle.std.proofs.Common.{ℕ, ◌+◌, ◌-◌, ◌*◌, ◌/◌, ◌^◌, 
 use lib.Bits.{bit_xor, bit_and, xor_assoc, xor_zero_r}
 use Rattle.std.proofs.lemmas.Nat.{one_shl}
 use Rattle.field.specs.Products.{plain_product}
-use Rattle.field.proofs.Reduction.{plain_step, plain_whole, plain_done}
+use Rattle.field.proofs.Reduction.{plain_step, plain_done}
 use Rattle.field.proofs.gf17.shifted_sum.Goals as goal
-
-pub loop-i-init : goal.loop-i-init
-loop-i-init c = plain_whole 17 c.args.x c.args.y
 
 pub loop-i-preserved : goal.loop-i-preserved
 loop-i-preserved c =

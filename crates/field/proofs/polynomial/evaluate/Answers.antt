@@ -1,38 +1,24 @@
-use Rattle.std.proofs.Common.{◌≡◌, ℕ, suc, ◌-◌, ◌<◌, List, map, length, get_or, drop, sym, ap, ◌∙◌, subst, ap₂, arith, drop-cons}
+use Rattle.std.proofs.Common.{◌≡◌, [], ◌∷◌, map, ap, ◌∙◌, rules, reverse}
 use lib.Bits.{bit_xor, xor_self}
-use Rattle.std.proofs.lemmas.List.{drop_all}
+use Rattle.std.proofs.lemmas.Fn.{fold_over}
+use Rattle.std.proofs.lemmas.Iterator.Adapters.{YieldsList-from_rev_slice}
+use Rattle.std.proofs.lemmas.List.{reverse-append, reverse-reverse}
+use Rattle.std.specs.Iterator.Adapters.{rev_steps}
+use Rattle.std.specs.Slice.Iter.{iter_steps_back}
 use Rattle.field.specs.Polynomials.{value_at}
 use Rattle.field.proofs.Roots.{roots}
 use Rattle.field.proofs.polynomial.evaluate.Goals as goal
 
--- one coefficient more, e, after which the sum is s and its product with x is p
-value_next : {E : Type 0} (number : E → ℕ) (mul : ℕ → ℕ → ℕ) (cs : List E) (i j : ℕ) (e : E) (x : ℕ) {p s : ℕ} {r : ℕ}
-    → j ≡ suc i → i < length cs → e ≡ get_or cs i e → r ≡ bit_xor (number e) p → p ≡ mul x s → s ≡ value_at mul (map number (drop j cs)) x
-    → r ≡ value_at mul (map number (drop i cs)) x
-value_next number mul cs i j e x next within read added multiplied before =
-    added ∙ ap (bit_xor (number e)) (multiplied ∙ ap (mul x) before)
-    ∙ sym
-    (ap (λ ds. value_at mul (map number ds) x) (drop-cons cs i e within)
-    ∙ ap₂ (λ d k. bit_xor (number d) (mul x (value_at mul (map number (drop k cs)) x))) (sym read) (sym next))
-
-pub loop-i-init : goal.loop-i-init
-loop-i-init g c =
+pub returns-clause-value : goal.returns-clause-value
+returns-clause-value g c =
     let f = g.F.Field in
     let cs = c.args.coefficients.now in
-    c.add-sum.ensures ∙ xor_self (f.number c.args.x)
-    ∙ sym (ap (λ ds. value_at f.mul (map f.number ds) (f.number c.args.x)) (drop_all (length cs) cs (omega arith)))
+    rw (reverse-reverse cs) at
+    (fold_over (rev_steps iter_steps_back) (λ y. y.now) _ (λ ys s. f.number s ≡ value_at f.mul (map f.number (reverse ys)) (f.number c.args.x)) _
+    (λ ys a x b f' before k.
+    let next : f.number b ≡ bit_xor (f.number x.now) (f.mul (f.number c.args.x) (f.number a)) = search rules in
+    (rw (reverse-append ys (x.now ∷ [])) (next ∙ ap (λ v. bit_xor (f.number x.now) (f.mul (f.number c.args.x) v)) before), search rules))
+    c.rev.result (reverse cs) c.add-zero.result c.fold.result (YieldsList-from_rev_slice {s = c.rev.result} cs (cc)).runs (c.add-zero.ensures ∙ xor_self (f.number c.args.x)) c.fold.ensures.ran)
 
-pub loop-i-preserved : goal.loop-i-preserved
-loop-i-preserved g c =
-    let f = g.F.Field in
-    value_next f.number f.mul c.args.coefficients.now (c.loop-i.i - 1) c.loop-i.i c.index-coefficients-i.result (f.number c.args.x)
-    {p = f.number c.multiply.result} {s = f.number c.loop-i.sum}
-    (omega arith) (omega arith) c.index-coefficients-i.is c.add-sum-in-loop-i.ensures c.multiply.ensures c.loop-i.invariant
-
-pub returns : goal.returns
-returns g c =
-    let f = g.F.Field in
-    let start : c.loop-i.i ≡ 0 = omega arith in
-    let Value : ℕ → Type 0 =
-    λ k. f.number c.loop-i.sum ≡ value_at f.mul (map f.number (drop k c.args.coefficients.now)) (f.number c.args.x) in
-    record { value = subst Value start c.loop-i.invariant; roots = roots f.m f.mul f.laws }
+pub returns-clause-roots : goal.returns-clause-roots
+returns-clause-roots g c = roots g.F.Field.WIDTH g.F.Field.mul g.F.Field.laws

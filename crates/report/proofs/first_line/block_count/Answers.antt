@@ -1,14 +1,9 @@
-use Rattle.std.proofs.Common.{◌∷◌, ◌++◌, decimal, sym, ◌∙◌}
-use Rattle.std.specs.Str.{bytes_eq}
-use Rattle.report.proofs.Counting.{first_more, first_here}
+use Rattle.std.proofs.Common.{◌∙◌, rules}
+use Rattle.std.proofs.lemmas.Bool.Decides.{Decides-eqb}
+use Rattle.std.proofs.lemmas.Slice.Eq.{strip_prefix_is}
+use Rattle.report.proofs.Counting.{named}
 use Rattle.report.proofs.first_line.block_count.Goals as goal
 
-pub loop-b-preserved : goal.loop-b-preserved
-loop-b-preserved c =
-    first_more (λ b. bytes_eq (decimal c.args.width ++ 32 ∷ decimal b) c.args.line.now) c.loop-b.b 17 c.loop-b-test.true (sym c.in_ok-is_first_line.ensures ∙ c.if-branch.false)
-    ∙ c.loop-b.invariant
-
-pub returns-then-branch-clause-value : goal.returns-then-branch-clause-value
-returns-then-branch-clause-value c =
-    sym (first_here (λ b. bytes_eq (decimal c.args.width ++ 32 ∷ decimal b) c.args.line.now) c.loop-b.b 17 c.loop-b-test.true (sym c.in_ok-is_first_line.ensures ∙ c.if-branch.true))
-    ∙ c.loop-b.invariant
+pub returns-clause-value : goal.returns-clause-value
+returns-clause-value c =
+    named c.args.width c.as_bytes.result.now c.args.line.now (c.as_bytes.ensures.value ∙ c.in_ok-start.ensures.ok) c.strip_prefix.result c.and_then.result (strip_prefix_is Decides-eqb c.args.line.now _ _ c.strip_prefix.ensures.cases) (search rules)

@@ -1,12 +1,11 @@
-use Rattle.std.proofs.Common.{◌≡◌, ◌+◌, ◌≤◌, ◌++◌, length, string_bytes}
-use Rattle.frame.specs.Code.{code}
+use Rattle.std.proofs.Common.{◌≡◌, ◌+◌, ◌++◌, string_bytes}
+use Rattle.std.specs.Iterator.Adapters.{enumerate_count, enumerate_source}
+use Rattle.frame.specs.Code.{code_of}
 use Rattle.report.specs.Text.{lines, frames_text}
 use Rattle.report.proofs.frame_lines.report_frames.Given as goal
 
-abbrev pub invariant-loop-line : goal.invariant-loop-line
-invariant-loop-line g l =
-    let K = code g.F.Field.m g.F.Field.mul (g.C.ColumnSet.columns l.set) (g.C.ColumnSet.height l.set) in
-    (l.number + length l.rest ≤ 65537) × (string_bytes l.report ++ frames_text K l.b l.number (lines l.rest) ≡ frames_text K l.b 1 (lines l.text))
-
-abbrev pub decreases-loop-line : goal.decreases-loop-line
-decreases-loop-line g l = length l.rest
+abbrev pub invariant-loop-i : goal.invariant-loop-i
+invariant-loop-i g l =
+    let K = code_of g.F.Field g.C.ColumnSet l.set in
+    let left = lines (enumerate_source l.i-iterator).0.now in
+    string_bytes l.report ++ frames_text K l.b (enumerate_count l.i-iterator + 1) left ≡ frames_text K l.b 1 (lines l.frames)

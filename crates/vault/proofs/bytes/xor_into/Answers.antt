@@ -1,4 +1,4 @@
-use Rattle.std.proofs.Common.{◌≡◌, ℕ, zero, suc, ◌<◌, List, [], ◌∷◌, length, get_or, take, set, sym, refl, ap, ◌∙◌, le_of_suc-le-suc, add-one, arith, take_all}
+use Rattle.std.proofs.Common.{◌≡◌, ℕ, zero, suc, ◌<◌, List, [], ◌∷◌, length, get_or, take, set, sym, refl, ap, ◌∙◌, le_of_suc-le-suc, add-one, arith}
 use lib.Bits.{bit_xor}
 use Rattle.bits.specs.Rows.{xored}
 use Rattle.vault.proofs.bytes.xor_into.Goals as goal
@@ -24,6 +24,3 @@ loop-i-preserved c =
     let pattern = c.args.pattern.now in
     ap (λ xs. set xs i (bit_xor (get_or xs i 0) (get_or pattern i 0))) c.loop-i.invariant
     ∙ step bytes pattern i (omega arith) (omega arith) ∙ ap (λ n. xored bytes (take n pattern)) (sym (add-one i))
-
-pub returns : goal.returns
-returns c = c.loop-i.invariant ∙ ap (xored c.args.bytes.now) (take_all c.loop-i.i c.args.pattern.now (omega arith))

@@ -1,40 +1,30 @@
-use Rattle.std.proofs.Common.{◌≡◌, ℕ, List, length, sym, refl, ap, ◌∙◌, arith}
+use Rattle.std.proofs.Common.{length, sym, ap, ◌∙◌, arith}
 use Rattle.bits.specs.Rows.{xored}
-use Rattle.frame.specs.Code.{code}
-use Rattle.vault.specs.Cells.{Vault, vault, cell_bytes, cell, with_cell}
-use Rattle.vault.proofs.CallsDone.{fetched, stored, inject_no_cell, inject_no_size, inject_done}
-use Rattle.vault.proofs.Shelf.{lent}
+use Rattle.vault.specs.Cells.{Vault, with_cell, IsCell}
+use Rattle.vault.specs.Held.{vault_of}
+use Rattle.vault.specs.declared.answers.InjectFault.TheVariants.{Cell}
+use Rattle.vault.proofs.CallsDone.{by_ok_or, lent_back, inject_no_size, inject_done}
+use Rattle.vault.proofs.parts.Vault.inject.Given as given
 use Rattle.vault.proofs.parts.Vault.inject.Goals as goal
+use Rattle.vault.proofs.parts.Vault.inject.Goals.{After-len}
 
-pub returns-in_default : goal.returns-in_default
-returns-in_default g c =
-    let s = c.args.self.now in
-    let V : Vault = vault (code g.F.Field.m g.F.Field.mul (g.C.ColumnSet.columns s.set) (g.C.ColumnSet.height s.set)) s.blocks s.cells in
-    record { does = inject_no_cell V (g.B.Bank.row s.bank) c.args.cell c.args.pattern.now c.in_default.ensures.lies; kept = (refl, (refl, refl)); seams = refl; refused = refl }
+here : (g : given.Over) (c : After-len g) → IsCell (vault_of g.F.Field g.C.ColumnSet c.args.self.now) c.args.cell (g.B.Bank.row c.args.self.now.bank) c.in_ok-bytes.bytes.items
+here g c = by_ok_or (vault_of g.F.Field g.C.ColumnSet c.args.self.now) (g.B.Bank.row c.args.self.now.bank) c.args.cell c.fetch.result c.in_ok-bytes.bytes c.fetch.ensures Cell (sym c.ok_or.ensures.value ∙ c.in_ok-bytes.was)
 
-pub returns-then-pattern-f : goal.returns-then-pattern-f
-returns-then-pattern-f g c =
-    let s = c.args.self.now in
-    let V : Vault = vault (code g.F.Field.m g.F.Field.mul (g.C.ColumnSet.columns s.set) (g.C.ColumnSet.height s.set)) s.blocks s.cells in
-    let lies = c.in-Some.ensures.lies in
-    record { does = inject_no_size V (g.B.Bank.row s.bank) c.args.cell c.args.pattern.now lies.0 (λ e. c.if-pattern-f.true (e ∙ sym lies.2)); kept = (refl, (refl, refl)); seams = refl; refused = refl }
+pub returns-then-pattern-len-clause-does : goal.returns-then-pattern-len-clause-does
+returns-then-pattern-len-clause-does g c =
+    let at = (goal.at.returns-then-pattern-len-clause-does g c).After-len in
+    inject_no_size (vault_of g.F.Field g.C.ColumnSet c.args.self.now) (g.B.Bank.row c.args.self.now.bank) c.args.cell c.in_ok-bytes.bytes.items (here g at) c.args.pattern.now
+    (λ same. c.if-pattern-len.true (same ∙ sym c.len.ensures.value))
 
-pub returns : goal.returns
-returns g c =
-    let s = c.args.self.now in
-    let V : Vault = vault (code g.F.Field.m g.F.Field.mul (g.C.ColumnSet.columns s.set) (g.C.ColumnSet.height s.set)) s.blocks s.cells in
-    let row : List ℕ = g.B.Bank.row s.bank in
+pub returns-clause-does : goal.returns-clause-does
+returns-clause-does g c =
+    let at = (goal.at.returns-clause-does g c).After-len in
+    let V : Vault = vault_of g.F.Field g.C.ColumnSet c.args.self.now in
+    let row = g.B.Bank.row c.args.self.now.bank in
+    let items = c.in_ok-bytes.bytes.items in
     let pattern = c.args.pattern.now in
-    let span = c.in-Some.span in
-    let lies = c.in-Some.ensures.lies in
-    let room = lent span.bytes 56 c.in-Some.ensures.inside.1 in
-    let before : c.fetch.new.bytes ≡ cell V c.args.cell row = c.fetch.ensures ∙ fetched V row c.args.cell span.start _ lies.1 (room ∙ lies.2) in
-    let after : c.xor_into.new.bytes ≡ xored (cell V c.args.cell row) pattern = c.xor_into.ensures ∙ ap (λ xs. xored xs pattern) before in
-    let long : length c.xor_into.new.bytes ≡ cell_bytes V = omega (arith, room, lies.2) in
-    let d = inject_done V row c.args.cell pattern lies.0 (c.if-pattern-f.false ∙ lies.2) in
-    record {
-      does = (d.0, c.store.ensures.changed ∙ stored V row c.args.cell span.start c.xor_into.new.bytes lies.1 long ∙ ap (λ xs. with_cell V c.args.cell xs row) after ∙ d.1);
-      kept = (refl, (refl, refl));
-      seams = c.store.ensures.seams;
-      refused = tt;
-    }
+    let back = c.deref.ensures.0 ∙ lent_back (length items) items c.xor_into.new.bytes (omega (arith, ap length c.deref_mut.ensures.value)) in
+    let struck = back ∙ c.xor_into.ensures ∙ ap (λ xs. xored xs pattern) c.deref_mut.ensures.value in
+    inject_done V row c.args.cell items (here g at) pattern (g.B.Bank.row c.store.new.self.bank) (c.if-pattern-len.false ∙ c.len.ensures.value)
+    (c.store.ensures.stored ∙ ap (λ xs. with_cell V c.args.cell xs row) struck)

@@ -1,89 +1,58 @@
-use Rattle.std.proofs.Common.{◌≡◌, ℕ, ◌-◌, List, length, take, replicate, Ok, sym, refl, ap, ◌∙◌, ap₂, arith}
-use Rattle.frame.specs.Code.{code}
-use Rattle.frame.specs.Opening.{row_opening, answer}
+use Rattle.std.proofs.Common.{◌≡◌, ℕ, length, take, replicate, Ok, Err, sym, ap, ◌∙◌, ap₂, arith, length-take-le}
+use lib.ListN.{length-replicate}
+use Rattle.std.proofs.lemmas.Result.{err_from_is_err_and}
+use Rattle.frame.specs.Opening.{answer, row_opening}
 use Rattle.frame.specs.Renewal.{renewed}
 use Rattle.frame.proofs.Fits.{sized_parts}
-use Rattle.frame.proofs.Mendable.{clean_stays, refused_stays}
-use Rattle.vault.specs.Cells.{Vault, vault, cell_bytes, cell, with_cell}
+use Rattle.vault.specs.Cells.{Vault, with_cell, IsCell}
 use Rattle.vault.specs.Calls.{cell_opening, swept_cell}
-use Rattle.vault.proofs.CallsDone.{fetched, stored, frame_opens}
-use Rattle.vault.proofs.Shelf.{standing, lent}
-use Rattle.vault.proofs.Tally.{with_own, one_clean, one_mended, one_refused}
+use Rattle.vault.specs.Held.{vault_of}
+use Rattle.vault.specs.Tally.{mended_found}
+use Rattle.vault.proofs.CallsDone.{by_unwrap, lent_back, opens, found_ok, found_err, unmended}
+use Rattle.vault.proofs.Shelf.{standing}
 use Rattle.vault.proofs.parts.Vault.mend.Given as given
 use Rattle.vault.proofs.parts.Vault.mend.Goals as goal
 use Rattle.vault.proofs.parts.Vault.mend.Goals.{After-renew}
 
--- the fetched frame is the cell, and opens as the cell does
-is_cell : (g : given.Over) (c : After-renew g) → c.fetch.new.bytes ≡ cell (vault (code g.F.Field.m g.F.Field.mul (g.C.ColumnSet.columns c.args.self.now.set) (g.C.ColumnSet.height c.args.self.now.set)) c.args.self.now.blocks c.args.self.now.cells) c.args.cell (g.B.Bank.row c.args.self.now.bank)
-is_cell g c =
-    let s = c.args.self.now in
-    let V : Vault = vault (code g.F.Field.m g.F.Field.mul (g.C.ColumnSet.columns s.set) (g.C.ColumnSet.height s.set)) s.blocks s.cells in
-    let row : List ℕ = g.B.Bank.row s.bank in
-    let lies = c.in-Some.ensures.lies in
-    let room = lent c.in-Some.span.bytes 56 c.in-Some.ensures.inside.1 in
-    c.fetch.ensures ∙ fetched V row c.args.cell c.in-Some.span.start _ lies.1 (room ∙ lies.2)
+here : (g : given.Over) (c : After-renew g) → IsCell (vault_of g.F.Field g.C.ColumnSet c.args.self.now) c.args.cell (g.B.Bank.row c.args.self.now.bank) c.unwrap-frame.result.items
+here g c = by_unwrap (vault_of g.F.Field g.C.ColumnSet c.args.self.now) (g.B.Bank.row c.args.self.now.bank) c.args.cell c.fetch.result c.unwrap-frame.result c.fetch.ensures c.unwrap-frame.ensures
 
-opens : (g : given.Over) (c : After-renew g) → row_opening (code g.F.Field.m g.F.Field.mul (g.C.ColumnSet.columns c.args.self.now.set) (g.C.ColumnSet.height c.args.self.now.set)) (length {A = ℕ} (take (c.args.self.now.blocks - 0) (replicate 16 0))) c.fetch.new.bytes ≡ cell_opening (vault (code g.F.Field.m g.F.Field.mul (g.C.ColumnSet.columns c.args.self.now.set) (g.C.ColumnSet.height c.args.self.now.set)) c.args.self.now.blocks c.args.self.now.cells) c.args.cell (g.B.Bank.row c.args.self.now.bank)
-opens g c =
-    let s = c.args.self.now in
-    let V : Vault = vault (code g.F.Field.m g.F.Field.mul (g.C.ColumnSet.columns s.set) (g.C.ColumnSet.height s.set)) s.blocks s.cells in
-    let row : List ℕ = g.B.Bank.row s.bank in
-    let blocks = lent s.blocks 16 (sized_parts s.blocks (standing V row c.args.cell c.requires).few).1 in
-    frame_opens V row c.args.cell (take (s.blocks - 0) (replicate 16 0)) c.requires blocks c.fetch.new.bytes (is_cell g c)
+-- what opening answered, and the frame after it, by what the cell opens to
+told : (g : given.Over) (c : After-renew g) → (c.renew.result ≡ answer (cell_opening (vault_of g.F.Field g.C.ColumnSet c.args.self.now) c.args.cell (g.B.Bank.row c.args.self.now.bank)))
+    × (c.renew.new.frame ≡ swept_cell (vault_of g.F.Field g.C.ColumnSet c.args.self.now) c.args.cell (g.B.Bank.row c.args.self.now.bank))
+told g c =
+    let V : Vault = vault_of g.F.Field g.C.ColumnSet c.args.self.now in
+    let row = g.B.Bank.row c.args.self.now.bank in
+    let few = (sized_parts V.b (standing V row c.args.cell c.requires).few).1 in
+    let n : ℕ = length {A = ℕ} (take V.b (replicate 16 0)) in
+    let blocks : n ≡ V.b = length-take-le {A = ℕ} V.b (replicate 16 0) (omega (arith, few, length-replicate {A = ℕ} 16 0)) in
+    let lent = c.deref_mut.ensures.value in
+    let which = ap (row_opening V.K n) lent ∙ opens V row c.args.cell c.unwrap-frame.result.items (here g c) n blocks in
+    (c.renew.ensures.answer ∙ ap answer which, c.renew.ensures.frame ∙ ap₂ (renewed V.K) (lent ∙ (here g c).is) which)
 
-told : (g : given.Over) (c : After-renew g) → c.renew.result ≡ answer (cell_opening (vault (code g.F.Field.m g.F.Field.mul (g.C.ColumnSet.columns c.args.self.now.set) (g.C.ColumnSet.height c.args.self.now.set)) c.args.self.now.blocks c.args.self.now.cells) c.args.cell (g.B.Bank.row c.args.self.now.bank))
-told g c = c.renew.ensures.answer ∙ ap answer (opens g c)
+pub returns-in_err-verdict-clause-swept : goal.returns-in_err-verdict-clause-swept
+returns-in_err-verdict-clause-swept g c =
+    let V : Vault = vault_of g.F.Field g.C.ColumnSet c.args.self.now in
+    let row = g.B.Bank.row c.args.self.now.bank in
+    let out = err_from_is_err_and c.from_residual.result c.from_residual.ensures.1 in
+    let found = found_err (cell_opening V c.args.cell row) c.in_err-verdict.field-0.0 (sym (told g (goal.at.returns-in_err-verdict-clause-swept g c).After-renew).0 ∙ c.in_err-verdict.was) in
+    (out.1 ∙ ap Err out.2 ∙ found, unmended V row c.args.cell (sym (ap mended_found found)))
 
-pub returns-in-Err : goal.returns-in-Err
-returns-in-Err g c =
-    let s = c.args.self.now in
-    let V : Vault = vault (code g.F.Field.m g.F.Field.mul (g.C.ColumnSet.columns s.set) (g.C.ColumnSet.height s.set)) s.blocks s.cells in
-    let row : List ℕ = g.B.Bank.row s.bank in
-    let e = sym c.in-Err.is ∙ told g (goal.at.returns-in-Err g c).After-renew in
-    let o = cell_opening V c.args.cell row in
-    let counted = one_refused o c.in-Err.field-0 e in
-    record {
-      swept = sym (ap (λ xs. with_cell V c.args.cell xs row) (refused_stays V.K o c.in-Err.field-0 (cell V c.args.cell row) e) ∙ with_own V c.args.cell row);
-      counts = (counted.clean, (counted.mended, counted.refused));
-      kept = (refl, (refl, refl));
-      seams = refl;
-      still = λ none. refl;
-    }
+pub returns-in-Mended-clause-swept : goal.returns-in-Mended-clause-swept
+returns-in-Mended-clause-swept g c =
+    let at = (goal.at.returns-in-Mended-clause-swept g c).After-renew in
+    let V : Vault = vault_of g.F.Field g.C.ColumnSet c.args.self.now in
+    let row = g.B.Bank.row c.args.self.now.bank in
+    let items = c.unwrap-frame.result.items in
+    let back = c.deref.ensures.0 ∙ lent_back (length items) items c.renew.new.frame (omega (arith, ap length c.deref_mut.ensures.value)) in (
+      found_ok (cell_opening V c.args.cell row) c.in_ok-verdict.verdict c.in_ok-verdict.field-0-1 (sym (told g at).0 ∙ c.in_ok-verdict.was),
+      c.store.ensures.stored ∙ ap (λ xs. with_cell V c.args.cell xs row) (back ∙ (told g at).1),
+    )
 
-pub returns-in-Clean : goal.returns-in-Clean
-returns-in-Clean g c =
-    let s = c.args.self.now in
-    let V : Vault = vault (code g.F.Field.m g.F.Field.mul (g.C.ColumnSet.columns s.set) (g.C.ColumnSet.height s.set)) s.blocks s.cells in
-    let row : List ℕ = g.B.Bank.row s.bank in
-    let a = c.in-Ok.opened.1 in
-    let e = ap (λ v. Ok (v, a)) (sym c.in-Clean.is) ∙ sym c.in-Ok.is ∙ told g (goal.at.returns-in-Clean g c).After-renew in
-    let o = cell_opening V c.args.cell row in
-    let counted = one_clean o a e in
-    record {
-      swept = sym (ap (λ xs. with_cell V c.args.cell xs row) (clean_stays V.K o a (cell V c.args.cell row) e) ∙ with_own V c.args.cell row);
-      counts = (counted.clean, (counted.mended, counted.refused));
-      kept = (refl, (refl, refl));
-      seams = refl;
-      still = λ none. refl;
-    }
-
-pub returns-in-Mended : goal.returns-in-Mended
-returns-in-Mended g c =
-    let s = c.args.self.now in
-    let V : Vault = vault (code g.F.Field.m g.F.Field.mul (g.C.ColumnSet.columns s.set) (g.C.ColumnSet.height s.set)) s.blocks s.cells in
-    let row : List ℕ = g.B.Bank.row s.bank in
-    let at = (goal.at.returns-in-Mended g c).After-renew in
-    let a = c.in-Ok.opened.1 in
-    let e = ap (λ v. Ok (v, a)) (sym c.in-Mended.is) ∙ sym c.in-Ok.is ∙ told g at in
-    let lies = c.in-Some.ensures.lies in
-    let room = lent c.in-Some.span.bytes 56 c.in-Some.ensures.inside.1 in
-    let long : length c.renew.new.frame ≡ cell_bytes V = omega (arith, room, lies.2) in
-    let bytes : c.renew.new.frame ≡ swept_cell V c.args.cell row = c.renew.ensures.frame ∙ ap₂ (renewed V.K) (is_cell g at) (opens g at) in
-    let counted = one_mended (cell_opening V c.args.cell row) c.in-Mended.field-0 a e in
-    record {
-      swept = c.store.ensures.changed ∙ stored V row c.args.cell c.in-Some.span.start c.renew.new.frame lies.1 long ∙ ap (λ xs. with_cell V c.args.cell xs row) bytes;
-      counts = (counted.clean, (counted.mended, counted.refused));
-      kept = (refl, (refl, refl));
-      seams = c.store.ensures.seams;
-      still = λ none. absurd (omega arith);
-    }
+pub returns-in_default-clause-swept : goal.returns-in_default-clause-swept
+returns-in_default-clause-swept g c =
+    let V : Vault = vault_of g.F.Field g.C.ColumnSet c.args.self.now in
+    let row = g.B.Bank.row c.args.self.now.bank in
+    let at = (goal.at.returns-in_default-clause-swept g c).After-renew in
+    let found = found_ok (cell_opening V c.args.cell row) c.in_ok-verdict.verdict c.in_ok-verdict.field-0-1 (sym (told g at).0 ∙ c.in_ok-verdict.was) in
+    (found, unmended V row c.args.cell (sym (ap mended_found found) ∙ ap (λ v. mended_found (Ok v)) c.in_default.is))

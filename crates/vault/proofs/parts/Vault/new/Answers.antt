@@ -1,10 +1,7 @@
-use Rattle.std.proofs.Common.{refl}
-use Rattle.frame.specs.Code.{code}
-use Rattle.vault.specs.Cells.{Vault, vault}
+use Rattle.frame.specs.Code.{code_of}
+use Rattle.vault.specs.Cells.{vault}
 use Rattle.vault.proofs.Law.{law}
 use Rattle.vault.proofs.parts.Vault.new.Goals as goal
 
-pub returns : goal.returns
-returns g c =
-    let V : Vault = vault (code g.F.Field.m g.F.Field.mul (g.C.ColumnSet.columns c.args.set) (g.C.ColumnSet.height c.args.set)) c.args.blocks c.args.cells in
-    record { parts = (refl, (refl, (refl, refl))); law = law V g.F.Field.laws (g.C.ColumnSet.laws c.args.set) }
+pub returns-clause-law : goal.returns-clause-law
+returns-clause-law g c = law (vault (code_of g.F.Field g.C.ColumnSet c.args.set) c.args.blocks c.args.cells) g.F.Field.laws (g.C.ColumnSet.laws c.args.set)

@@ -1,53 +1,47 @@
-use Rattle.std.proofs.Common.{◌≡◌, ℕ, List, length, ◌∙◌}
-use Rattle.frame.specs.Code.{code}
-use Rattle.frame.specs.Opening.{row_opening}
-use Rattle.frame.proofs.Decisions.{filled_err}
-use Rattle.vault.specs.Cells.{Vault, vault}
+use Rattle.std.proofs.Common.{◌≡◌, length, Ok, Err, sym, ◌∙◌, rules}
+use Rattle.std.specs.Result.{MatchResult, IsErrAnd}
+use Rattle.std.proofs.lemmas.Result.{err_from_is_err_and}
+use Rattle.frame.specs.Opening.{answer, filled}
+use Rattle.vault.specs.Cells.{Vault, IsCell}
 use Rattle.vault.specs.Calls.{cell_opening}
-use Rattle.vault.proofs.CallsDone.{fetched, read_no_cell, read_no_size, frame_opens, read_done, read_refused}
-use Rattle.vault.proofs.Shelf.{lent}
+use Rattle.vault.specs.Held.{vault_of}
+use Rattle.vault.specs.declared.answers.ReadFault.TheVariants.{Cell, Frame}
+use Rattle.vault.proofs.CallsDone.{by_ok_or, opens, opened_ok, opened_err, read_as}
 use Rattle.vault.proofs.parts.Vault.read.Given as given
 use Rattle.vault.proofs.parts.Vault.read.Goals as goal
-use Rattle.vault.proofs.parts.Vault.read.Goals.{After-open}
+use Rattle.vault.proofs.parts.Vault.read.Goals.{After-map_err}
 
-pub returns-in_default : goal.returns-in_default
-returns-in_default g c =
-    let s = c.args.self.now in
-    let V : Vault = vault (code g.F.Field.m g.F.Field.mul (g.C.ColumnSet.columns s.set) (g.C.ColumnSet.height s.set)) s.blocks s.cells in
-    record { does = read_no_cell V (g.B.Bank.row s.bank) c.args.cell c.args.places.now c.in_default.ensures.lies }
+here : (g : given.Over) (c : After-map_err g) → IsCell (vault_of g.F.Field g.C.ColumnSet c.args.self.now) c.args.cell (g.B.Bank.row c.args.self.now.bank) c.in_ok-frame.frame.items
+here g c = by_ok_or (vault_of g.F.Field g.C.ColumnSet c.args.self.now) (g.B.Bank.row c.args.self.now.bank) c.args.cell c.fetch.result c.in_ok-frame.frame c.fetch.ensures Cell (sym c.ok_or.ensures.value ∙ c.in_ok-frame.was)
 
-pub returns-then-places-self : goal.returns-then-places-self
-returns-then-places-self g c =
-    let s = c.args.self.now in
-    let V : Vault = vault (code g.F.Field.m g.F.Field.mul (g.C.ColumnSet.columns s.set) (g.C.ColumnSet.height s.set)) s.blocks s.cells in
-    record { does = read_no_size V (g.B.Bank.row s.bank) c.args.cell c.args.places.now c.in-Some.ensures.lies.0 c.if-places-self.true }
+-- what opening answered, and the row after it, by what the cell opens to
+told : (g : given.Over) (c : After-map_err g) → (c.open.result ≡ answer (cell_opening (vault_of g.F.Field g.C.ColumnSet c.args.self.now) c.args.cell (g.B.Bank.row c.args.self.now.bank)))
+    × (c.open.new.row ≡ filled (cell_opening (vault_of g.F.Field g.C.ColumnSet c.args.self.now) c.args.cell (g.B.Bank.row c.args.self.now.bank)) c.args.places.now)
+told g c =
+    let V : Vault = vault_of g.F.Field g.C.ColumnSet c.args.self.now in
+    let which = opens V (g.B.Bank.row c.args.self.now.bank) c.args.cell c.in_ok-frame.frame.items (here g c) (length c.args.places.now) c.if-places-self.false in
+    rw (← which, ← c.deref.ensures.0) (c.open.ensures.answer, c.open.ensures.row)
 
--- the fetched frame opens as the cell does
-opens : (g : given.Over) (c : After-open g) → row_opening (code g.F.Field.m g.F.Field.mul (g.C.ColumnSet.columns c.args.self.now.set) (g.C.ColumnSet.height c.args.self.now.set)) (length c.args.places.now) c.fetch.new.bytes ≡ cell_opening (vault (code g.F.Field.m g.F.Field.mul (g.C.ColumnSet.columns c.args.self.now.set) (g.C.ColumnSet.height c.args.self.now.set)) c.args.self.now.blocks c.args.self.now.cells) c.args.cell (g.B.Bank.row c.args.self.now.bank)
-opens g c =
-    let s = c.args.self.now in
-    let V : Vault = vault (code g.F.Field.m g.F.Field.mul (g.C.ColumnSet.columns s.set) (g.C.ColumnSet.height s.set)) s.blocks s.cells in
-    let row : List ℕ = g.B.Bank.row s.bank in
-    let lies = c.in-Some.ensures.lies in
-    let room = lent c.in-Some.span.bytes 56 c.in-Some.ensures.inside.1 in
-    let is = c.fetch.ensures ∙ fetched V row c.args.cell c.in-Some.span.start _ lies.1 (room ∙ lies.2) in
-    frame_opens V row c.args.cell c.args.places.now lies.0 c.if-places-self.false c.fetch.new.bytes is
+-- a refusal is named by the cell
+named : (g : given.Over) (c : After-map_err g) → MatchResult c.open.result (λ x. c.map_err.result ≡ Ok x) (λ fault. IsErrAnd c.map_err.result (λ n. n ≡ Frame c.args.cell fault))
+named g c = search rules
 
-pub returns-in-Ok : goal.returns-in-Ok
-returns-in-Ok g c =
-    let s = c.args.self.now in
-    let V : Vault = vault (code g.F.Field.m g.F.Field.mul (g.C.ColumnSet.columns s.set) (g.C.ColumnSet.height s.set)) s.blocks s.cells in
-    let told = c.in-Ok.ensures in
-    record {
-      does = read_done V (g.B.Bank.row s.bank) c.args.cell c.args.places.now c.in-Some.ensures.lies.0 c.if-places-self.false _ (opens g (goal.at.returns-in-Ok g c).After-open) c.in-Ok.opened.0 c.in-Ok.opened.1 c.open.new.row told.answer told.row;
-    }
+pub returns-in_err-verdict : goal.returns-in_err-verdict
+returns-in_err-verdict g c =
+    let at = (goal.at.returns-in_err-verdict g c).After-map_err in
+    let V : Vault = vault_of g.F.Field g.C.ColumnSet c.args.self.now in
+    let row = g.B.Bank.row c.args.self.now.bank in
+    let places = c.args.places.now in
+    let fault = c.in_err-verdict.field-0.0 in
+    let out = err_from_is_err_and c.from_residual-in_err-verdict.result c.from_residual-in_err-verdict.ensures.1 in
+    let kept = opened_err c.args.cell c.open.result c.map_err.result (cell_opening V c.args.cell row) fault places (told g at).0 (named g at) c.in_err-verdict.was in
+    rw (out.1, out.2) (record { does = read_as V row c.args.cell c.in_ok-frame.frame.items (here g at) places c.if-places-self.false (Err fault) c.open.new.row kept.0 ((told g at).1 ∙ kept.1) })
 
-pub returns-in-Err : goal.returns-in-Err
-returns-in-Err g c =
-    let s = c.args.self.now in
-    let V : Vault = vault (code g.F.Field.m g.F.Field.mul (g.C.ColumnSet.columns s.set) (g.C.ColumnSet.height s.set)) s.blocks s.cells in
-    let told = c.in-Err.ensures in
-    let fault = c.in-Err.fault in
-    record {
-      does = read_refused V (g.B.Bank.row s.bank) c.args.cell c.args.places.now c.in-Some.ensures.lies.0 c.if-places-self.false _ (opens g (goal.at.returns-in-Err g c).After-open) fault c.open.new.row told.answer (told.row ∙ filled_err _ fault c.args.places.now told.answer);
-    }
+pub returns : goal.returns
+returns g c =
+    let at = (goal.at.returns g c).After-map_err in
+    let V : Vault = vault_of g.F.Field g.C.ColumnSet c.args.self.now in
+    let row = g.B.Bank.row c.args.self.now.bank in
+    let verdict = c.in_ok-verdict.verdict in
+    let ok = opened_ok c.args.cell c.open.result c.map_err.result (cell_opening V c.args.cell row) verdict c.in_ok-verdict.field-0-1 (told g at).0 (named g at) c.in_ok-verdict.was in
+    record { does = read_as V row c.args.cell c.in_ok-frame.frame.items (here g at) c.args.places.now c.if-places-self.false (Ok verdict) c.open.new.row ok (told g at).1 }

@@ -1,7 +1,0 @@
-use Rattle.std.proofs.Common.{◌≡◌, drop}
-use lib.Bits.{bit_xor}
-use Rattle.frame.specs.Checks.{xor_all}
-use Rattle.frame.proofs.value.fold.Given as goal
-
-abbrev pub invariant-loop-y : goal.invariant-loop-y
-invariant-loop-y l = bit_xor l.all (xor_all (drop l.y-index l.word)) ≡ xor_all l.word
