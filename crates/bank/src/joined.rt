@@ -13,7 +13,7 @@ pub struct Joined<A, B> {
     second: B,
 }
 
-// Which of the two banks a place lies in, and the place there.
+// Which of the two banks a place lies in, and the place there: an enum of its own, since its names say which.
 #[derive(Clone, Copy)]
 enum Part {
     First(usize),

@@ -1,4 +1,5 @@
 // A bank over a slice that is lent for writing. A slice of more than 65,536 bytes is a bank of length 0.
+// Its three methods call those of `row.rt`, whose head says why they stand in both.
 ghost use Rattle.std.specs.Prelude.{◌≡◌};
 ghost use Rattle.bank.specs.Rows.{bounded, bounded_short};
 

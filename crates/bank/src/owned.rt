@@ -1,4 +1,5 @@
 // A bank that owns its 512 bytes.
+// Its three methods call those of `row.rt`, whose head says why they stand in both.
 ghost use Rattle.std.specs.Prelude.{◌≡◌, replicate};
 ghost use Rattle.bank.specs.Rows.{bounded, bounded_short};
 

@@ -16,7 +16,7 @@ fn count(digits: &[u8]) -> Option<usize>
     }
 }
 
-// The number of blocks, 1 to 16, with which the line names the width.
+// The number of blocks, 1 to 16, with which the line names the width; the error is want of memory alone.
 pub(crate) fn block_count(
     heap: Global,
     width: u32,

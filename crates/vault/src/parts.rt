@@ -1,4 +1,5 @@
 // A vault and its parts: a field, a column set, a bank, the blocks of a word, and the cells that are asked for.
+// What each call leaves alone is one definition, `Keeps`, in place of four facts.
 ghost use Rattle.std.specs.Prelude.{◌≡◌, ◌<◌, length, if◌then◌else◌};
 ghost use Rattle.frame.specs.Code.{code_of};
 ghost use Rattle.frame.specs.Faults.{fit_number};

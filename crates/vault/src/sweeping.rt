@@ -41,6 +41,7 @@ impl<F: Field, C: ColumnSet, B: Bank> Vault<F, C, B> {
         ensures still { result.mended ≡ 0 → self.new ≡ self.old }
     {
         let mut counts = Counts::default();
+        // a cell is its number
         for cell in 0..self.cell_count() {
             counts.add(self.mend(cell));
         }
