@@ -21,7 +21,17 @@ pub trait Product<const W: u32> {
 // The field of 2^W elements with the product P.
 pub struct Binary<const W: u32, P>(PhantomData<P>);
 
-impl<const W: u32, P: Product<W>> Field for Binary<W, P> {
+// A type that stands for a `Binary`: that one itself, or a plain type with a name of its own, as `Gf7`.
+pub trait Name {
+    type Of;
+}
+
+impl<const W: u32, P> Name for Binary<W, P> {
+    type Of = Binary<W, P>;
+}
+
+// for each such type and not for `Binary` alone: an alias of that would be a type only, and no value or pattern
+impl<const W: u32, P: Product<W>, N: Name<Of = Binary<W, P>>> Field for N {
     type Elem = Elem<W>;
 
     const WIDTH: u32 = W;

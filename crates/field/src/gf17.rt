@@ -4,11 +4,15 @@ ghost use Rattle.field.specs.Fields.{product17};
 ghost use Rattle.field.specs.Products.{plain_product, fold};
 ghost use Rattle.field.specs.Widths.{laws17};
 
-use crate::binary::{Binary, Product};
+use crate::binary::{Binary, Name, Product};
 use crate::elem::Elem;
 
 // The field of 2^17 elements.
-pub type Gf17 = Binary<17, ByShifts>;
+pub struct Gf17;
+
+impl Name for Gf17 {
+    type Of = Binary<17, ByShifts>;
+}
 
 // The product by shifting.
 pub struct ByShifts;

@@ -3,7 +3,7 @@ ghost use Rattle.std.specs.Prelude.{◌≡◌, ◌<◌, MatchOption};
 ghost use Rattle.field.specs.Fields.{product7, z_power};
 ghost use Rattle.field.specs.Widths.{laws7};
 
-use crate::binary::{Binary, Product};
+use crate::binary::{Binary, Name, Product};
 use crate::elem::Elem;
 use logarithm_table::LOGARITHMS;
 use power_table::POWERS;
@@ -13,7 +13,11 @@ mod logarithm_table;
 mod power_table;
 
 // The field of 2^7 elements.
-pub type Gf7 = Binary<7, ByTables>;
+pub struct Gf7;
+
+impl Name for Gf7 {
+    type Of = Binary<7, ByTables>;
+}
 
 // The product by tables.
 pub struct ByTables;

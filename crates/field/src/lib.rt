@@ -12,7 +12,7 @@ mod polynomial;
 #[cfg(test)]
 mod tests;
 
-pub use binary::{Binary, Product};
+pub use binary::{Binary, Name, Product};
 pub use elem::Elem;
 pub use gf7::{ByTables, Gf7};
 pub use gf17::{ByShifts, Gf17};

@@ -1,5 +1,5 @@
 // Known products at both widths, and the ends of the range of numbers.
-use crate::{Field, Gf7, Gf17, evaluate};
+use crate::{Binary, ByTables, Field, Gf7, Gf17, evaluate};
 
 // The number of the product of the elements with the numbers x and y.
 fn product_of<F: Field>(x: u32, y: u32) -> Option<u32> {
@@ -44,4 +44,11 @@ fn roots(rt: HostRuntime) {
     assert_eq!(rt; value_of(78745, 70003, 1, 3), Some(0));
     assert_eq!(rt; value_of(78745, 70003, 1, 70000), Some(0));
     assert_eq!(rt; value_of(78745, 70003, 1, 4), Some(95831));
+}
+
+// The name of a field is a value too, which is let go by that name.
+#[test]
+fn names(rt: HostRuntime) {
+    let (Gf7, Gf17) = (Gf7, Gf17);
+    assert_eq!(rt; product_of::<Binary<7, ByTables>>(64, 2), Some(9));
 }

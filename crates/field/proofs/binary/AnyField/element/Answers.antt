@@ -3,7 +3,7 @@ use native.Mathlib.Nat.{div-eq_of_lt}
 use Rattle.std.proofs.Math.Nat.{lt-div-mul-add}
 use Rattle.std.proofs.lemmas.Bool.{cases_lt}
 use Rattle.std.specs.Option.{unwrap_or}
-use Rattle.field.proofs.binary.BinaryField.element.Goals as goal
+use Rattle.field.proofs.binary.AnyField.element.Goals as goal
 
 -- a shift by the whole width or more leaves nothing
 shifted : (w n : ℕ) (o : Option ℕ) → n < 2 ^ 32 → SomeIff o (w < 32) (n / 2 ^ w) → unwrap_or o 0 ≡ n / 2 ^ w
