@@ -5,6 +5,7 @@ use native.Mathlib.Nat.{zero-div, zero-mod, add-mul-mod_self_right, suc_inj}
 use lib.Arith.{digits_lt, digits_div, digits_mod}
 use lib.Bits.{bit_or, bit_xor, or_block, or_zero_r, or_lt, or_shifted_r, xor_block, xor_zero_r, xor_lt, xor_shr, xor_mod}
 use lib.Pow.{mod-pow-add, mod-mod-pow, field, split, low, high}
+use Rattle.std.proofs.Math.ListN.{take}
 use Rattle.std.specs.Int.{w64, to_le_bytes}
 use Rattle.bits.specs.Rows.{Bytes, little, part, xored}
 
@@ -48,9 +49,18 @@ bytes_set (x ∷ xs) zero v h f (suc k) = h (suc k)
 bytes_set (x ∷ xs) (suc i) v h f zero = h 0
 bytes_set (x ∷ xs) (suc i) v h f (suc k) = bytes_set xs i v (λ j. h (suc j)) f k
 
--- the bytes of a number, the lowest first
-pub little_le_bytes : (n : ℕ) → n < 2 ^ 64 → little (to_le_bytes w64 n) ≡ n
-little_le_bytes n h = omega arith
+-- the k lowest bytes of a number of at most 8 * k digits are all of it
+pub little_low_bytes : (k n : ℕ) → k ≤ 8 → n < 2 ^ (8 * k) → little (take k (to_le_bytes w64 n)) ≡ n
+little_low_bytes zero n f h = omega arith
+little_low_bytes (suc zero) n f h = omega arith
+little_low_bytes (suc (suc zero)) n f h = omega arith
+little_low_bytes (suc (suc (suc zero))) n f h = omega arith
+little_low_bytes (suc (suc (suc (suc zero)))) n f h = omega arith
+little_low_bytes (suc (suc (suc (suc (suc zero))))) n f h = omega arith
+little_low_bytes (suc (suc (suc (suc (suc (suc zero)))))) n f h = omega arith
+little_low_bytes (suc (suc (suc (suc (suc (suc (suc zero))))))) n f h = omega arith
+little_low_bytes (suc (suc (suc (suc (suc (suc (suc (suc zero)))))))) n f h = omega arith
+little_low_bytes (suc (suc (suc (suc (suc (suc (suc (suc (suc k))))))))) n f h = omega arith
 
 -- a byte ored into a row
 pub little_or : (xs : List ℕ) (i v : ℕ) → Bytes xs → i < length xs → v < 256 → little (set xs i (bit_or (get_or xs i 0) v)) ≡ bit_or (little xs) (v * 2 ^ (8 * i))

@@ -1,9 +1,12 @@
 -- A shift by whole bytes and one by the digits that are left.
 -- Assumes nothing.
-use Rattle.std.proofs.Common.{◌≡◌, ℕ, ◌+◌, ◌*◌, ◌/◌, ◌%◌, ◌^◌, ◌<◌, length, sym, ap, ◌∙◌, mul_assoc, arith, mod-lt, pow_pos, pow-add, shl_exact}
+use Rattle.std.proofs.Common.{◌≡◌, ℕ, ◌+◌, ◌*◌, ◌/◌, ◌%◌, ◌^◌, ◌<◌, List, length, sym, ap, ◌∙◌, ◌-◌, ◌≤◌, mul_assoc, arith, lt_of_lt_of_le, mod-lt, pow_pos, pow-add, pow_mono, shl_exact}
 use lib.Bits.{bit_or}
+use Rattle.std.proofs.Math.ListN.{take}
+use Rattle.std.proofs.lemmas.Nat.{leading_length}
+use Rattle.std.specs.Int.{w64, to_le_bytes, leading_zeros}
 use Rattle.bits.specs.Rows.{little}
-use Rattle.bits.proofs.Rows.{little_le_bytes}
+use Rattle.bits.proofs.Rows.{little_low_bytes}
 use Rattle.bits.proofs.put_bits.Goals as goal
 
 shifted : (v at : ℕ) → v < 2 ^ 32 → v * 2 ^ (at % 8) % 2 ^ 64 * 2 ^ (8 * (at / 8)) ≡ v * 2 ^ at
@@ -12,11 +15,20 @@ shifted v at h =
     ap (λ (x : ℕ). x * 2 ^ (8 * (at / 8))) (shl_exact 32 (at % 8) 64 h (omega arith))
     ∙ mul_assoc v (2 ^ (at % 8)) (2 ^ (8 * (at / 8))) ∙ ap (λ (x : ℕ). v * x) (sym (pow-add 2 (at % 8) (8 * (at / 8)))) ∙ ap (λ (k : ℕ). v * 2 ^ k) e
 
+-- the bytes up to the highest digit
+cut : (n : ℕ) → n < 2 ^ 64 → little (take (8 - leading_zeros w64 n / 8) (to_le_bytes w64 n)) ≡ n
+cut n h =
+    let (m, e, lt, _) = leading_length 64 n h in
+    let near : m ≤ 8 * (8 - leading_zeros w64 n / 8) = omega arith in
+    let most : 8 - leading_zeros w64 n / 8 ≤ 8 = omega arith in
+    little_low_bytes (8 - leading_zeros w64 n / 8) n most (lt_of_lt_of_le lt (pow_mono near))
+
 pub returns : goal.returns
 returns c =
     let n : ℕ = c.args.value * 2 ^ (c.args.at % 8) % 2 ^ 64 in
-    let whole : little c.to_le_bytes.result * 2 ^ (8 * (c.args.at / 8)) ≡ c.args.value * 2 ^ c.args.at =
-    ap (λ (x : ℕ). x * 2 ^ (8 * (c.args.at / 8))) (ap little c.to_le_bytes.ensures ∙ little_le_bytes n (mod-lt _ (pow_pos 64)))
+    let k : ℕ = 8 - leading_zeros w64 n / 8 in
+    let whole : little (take k c.to_le_bytes.result) * 2 ^ (8 * (c.args.at / 8)) ≡ c.args.value * 2 ^ c.args.at =
+    ap (λ (x : ℕ). x * 2 ^ (8 * (c.args.at / 8))) (ap (λ (bs : List ℕ). little (take k bs)) c.to_le_bytes.ensures ∙ cut n (mod-lt _ (pow_pos 64)))
     ∙ shifted c.args.value c.args.at c.ranges.value.fits in
     record {
       long = c.or_bytes.auto.row;
