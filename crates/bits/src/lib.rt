@@ -55,10 +55,13 @@ pub fn put_bits(row: &mut [u8], at: usize, value: u32)
     ensures long { length row.new ≡ length row.old }
     ensures ored { little row.new ≡ bit_or (little row.old) (value * 2 ^ at) % 2 ^ (8 * length row.old) }
 {
-    let shifted = (value as u64) << (at % 8);
-    // the bytes above the highest digit are 0, which change nothing
-    let length = 8 - shifted.leading_zeros() as usize / 8;
-    or_bytes(row, at / 8, &shifted.to_le_bytes()[..length]);
+    // a 0 changes nothing
+    if value > 0 {
+        let shifted = (value as u64) << (at % 8);
+        // the bytes above the highest digit are 0, which change nothing
+        let length = 8 - shifted.leading_zeros() as usize / 8;
+        or_bytes(row, at / 8, &shifted.to_le_bytes()[..length]);
+    }
 }
 
 #[cfg(test)]
