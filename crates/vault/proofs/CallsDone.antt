@@ -1,12 +1,10 @@
 -- What the calls on one cell answer and leave, once they have its bytes.
 -- Assumes nothing.
-use Rattle.std.proofs.Common.{◌≡◌, ℕ, ◌≤◌, true, eqb, ltb, List, length, drop, MatchResult, Some, None, Ok, Err, Option, Result, sym, refl, ap, ◌∙◌, subst, ap₂, arith, take_at}
-use Rattle.std.specs.List.{refill}
+use Rattle.std.proofs.Common.{◌≡◌, ℕ, ◌<◌, ◌≤◌, true, eqb, ltb, List, length, drop, MatchResult, Some, None, Ok, Err, Option, Result, sym, refl, ap, ◌∙◌, subst, ap₂, arith, take_at}
 use Rattle.std.specs.Option.{ok_or}
 use Rattle.std.specs.Result.{IsErrAnd}
 use Rattle.std.proofs.lemmas.Option.{MatchOption-at_some}
 use Rattle.std.proofs.lemmas.Bool.{cond-true, cond-false, lt-ltb, eq-eqb, ne_eqb}
-use Rattle.arrayvec.specs.ArrayVec.{ArrayVec}
 use Rattle.bits.specs.Rows.{xored}
 use Rattle.frame.specs.Opening.{Outcome, clean, mended, refused, answer, filled, row_opening}
 use Rattle.frame.specs.Renewal.{renewed}
@@ -19,7 +17,7 @@ use Rattle.frame.proofs.Fits.{row_opens}
 use Rattle.frame.proofs.Sealings.{sealing_passes}
 use Rattle.vault.specs.Cells.{Vault, cell_bytes, count, cell, with_cell, IsCell}
 use Rattle.vault.specs.Calls.{write, read, inject, wrote, got, struck, Does, write_sealed, write_answer, written, opened, cell_opening, read_answer, received, inject_answer, injected, swept_cell}
-use Rattle.vault.specs.Held.{Fetches}
+use Rattle.vault.specs.Held.{HasLength}
 use Rattle.vault.specs.Tally.{found_of, mended_found}
 use Rattle.vault.specs.declared.answers.InjectFault.{InjectFault}
 use Rattle.vault.specs.declared.answers.InjectFault.TheVariants as injects
@@ -30,21 +28,17 @@ use Rattle.vault.specs.declared.answers.WriteFault.TheVariants as writes
 use Rattle.vault.proofs.Shelf.{standing}
 use Rattle.vault.proofs.Rows.{with_own}
 
--- what is known of the bytes that were fetched
-module _ (V : Vault) (row : List ℕ) (c : ℕ) (o : Option (ArrayVec ℕ)) (bytes : ArrayVec ℕ) (known : Fetches V c row o) where
-  pub by_unwrap : o ≡ Some bytes → IsCell V c row bytes.items
-  by_unwrap is = MatchOption-at_some (count V row ≤ c) (λ bytes. IsCell V c row bytes.items) bytes is known
+-- a cell that is not refused is below the count, and its length is that of all
+module _ (V : Vault) (row : List ℕ) (c : ℕ) (o : Option ℕ) (len : ℕ) (known : HasLength V c row o) where
+  pub by_unwrap : o ≡ Some len → (c < count V row) × (len ≡ cell_bytes V)
+  by_unwrap is = MatchOption-at_some (count V row ≤ c) (λ n. (c < count V row) × (n ≡ cell_bytes V)) len is known
 
-  pub by_ok_or : {E : Type 0} (fault : E) → ok_or o fault ≡ Ok bytes → IsCell V c row bytes.items
+  pub by_ok_or : {E : Type 0} (fault : E) → ok_or o fault ≡ Ok len → (c < count V row) × (len ≡ cell_bytes V)
   by_ok_or fault is = by_unwrap (some o is)
     where
-      some : (o : Option (ArrayVec ℕ)) → ok_or o fault ≡ Ok bytes → o ≡ Some bytes
+      some : (o : Option ℕ) → ok_or o fault ≡ Ok len → o ≡ Some len
       some None is = cc
       some (Some x) is = cc
-
--- bytes that were lent for writing, and came back as many as they were
-pub lent_back : (n : ℕ) (before after : List ℕ) → length after ≡ n → refill n before after ≡ after
-lent_back n before after long = take_at after (drop (length after) before) n long
 
 -- what sealing refused
 refusal : (s : Result ℕ SealFault) (fault : SealFault) → seal_answer s ≡ Err fault → write_sealed s ≡ Err (writes.Seal fault)
@@ -95,15 +89,17 @@ unmended V row c none = sym (ap (λ xs. with_cell V c xs row) (stays (cell_openi
     stays (mended part ys b) none = absurd (omega arith)
     stays (refused fault) none = refl
 
-module _ (V : Vault) (row : List ℕ) (c : ℕ) (bytes : List ℕ) (here : IsCell V c row bytes) where
+-- a call on a cell below the count
+module _ (V : Vault) (row : List ℕ) (c : ℕ) (inside : c < count V row) where
   below : ltb c (count V row) ≡ true
-  below = lt-ltb c (count V row) here.below
+  below = lt-ltb c (count V row) inside
 
-  module _ (ys : List ℕ) (a : ℕ) (all : length ys ≡ V.b) where
+  -- a write over bytes of the length of a cell
+  module _ (bytes : List ℕ) (long : length bytes ≡ cell_bytes V) (ys : List ℕ) (a : ℕ) (all : length ys ≡ V.b) where
     seals : write_answer V row c ys a ≡ write_sealed (row_sealing V.K ys a (length bytes))
     seals =
         cond-true (ltb c (count V row)) _ _ below ∙ cond-true (eqb (length ys) V.b) _ _ (eq-eqb (length ys) V.b all)
-        ∙ ap (λ n. write_sealed (row_sealing V.K ys a n)) (sym here.long)
+        ∙ ap (λ n. write_sealed (row_sealing V.K ys a n)) (sym long)
 
     writes_as : (r : Result (Unit {0}) WriteFault) → write_answer V row c ys a ≡ r → Does V row (write c ys a) (wrote r) (written V row c ys a r)
     writes_as r e = (ap wrote (sym e), ap (written V row c ys a) (sym e))
@@ -115,13 +111,13 @@ module _ (V : Vault) (row : List ℕ) (c : ℕ) (bytes : List ℕ) (here : IsCel
     write_done frame after e is stored =
         let ok = sealing_passes V.K ys a (length bytes) (sym e) in
         let told : write_answer V row c ys a ≡ Ok tt = seals ∙ ap write_sealed ok.is in
-        let sealed : frame ≡ bytes_of (cell_bytes V) (sealing V.K ys a) = is ∙ ap (λ s. sealed_row s bytes) ok.is ∙ ap (λ n. bytes_of n (sealing V.K ys a)) here.long in
+        let sealed : frame ≡ bytes_of (cell_bytes V) (sealing V.K ys a) = is ∙ ap (λ s. sealed_row s bytes) ok.is ∙ ap (λ n. bytes_of n (sealing V.K ys a)) long in
         (ap wrote (sym told), stored ∙ ap (λ xs. with_cell V c xs row) sealed ∙ ap (written V row c ys a) (sym told))
 
   -- the frame in the cell opens as the cell does
-  pub opens : (b : ℕ) → b ≡ V.b → row_opening V.K b bytes ≡ cell_opening V c row
-  opens b all =
-      let known = standing V row c here.below in
+  pub opens : (bytes : List ℕ) → IsCell V c row bytes → (b : ℕ) → b ≡ V.b → row_opening V.K b bytes ≡ cell_opening V c row
+  opens bytes here b all =
+      let known = standing V row c inside in
       ap₂ (row_opening V.K) all here.is ∙ row_opens V.K V.b (cell V c row) known.fit known.few (ap length (sym here.is) ∙ here.long)
 
   module _ (places : List ℕ) (all : length places ≡ V.b) where
@@ -135,11 +131,11 @@ module _ (V : Vault) (row : List ℕ) (c : ℕ) (bytes : List ℕ) (here : IsCel
     injects_as : (r : Result (Unit {0}) InjectFault) → inject_answer V row c pattern ≡ r → Does V row (inject c pattern) (struck r) (injected V row c pattern r)
     injects_as r e = (ap struck (sym e), ap (injected V row c pattern) (sym e))
 
-    pub inject_no_size : (length pattern ≡ length bytes → ⊥) → Does V row (inject c pattern) (struck (Err injects.Size)) row
+    pub inject_no_size : (length pattern ≡ cell_bytes V → ⊥) → Does V row (inject c pattern) (struck (Err injects.Size)) row
     inject_no_size other =
-        injects_as (Err injects.Size) (cond-true (ltb c (count V row)) _ _ below ∙ cond-false (eqb (length pattern) (cell_bytes V)) _ _ (ne_eqb (length pattern) (cell_bytes V) (λ e. other (e ∙ sym here.long))))
+        injects_as (Err injects.Size) (cond-true (ltb c (count V row)) _ _ below ∙ cond-false (eqb (length pattern) (cell_bytes V)) _ _ (ne_eqb (length pattern) (cell_bytes V) other))
 
-    pub inject_done : (after : List ℕ) → length pattern ≡ length bytes → after ≡ with_cell V c (xored bytes pattern) row → Does V row (inject c pattern) (struck (Ok tt)) after
-    inject_done after all is =
-        let told : inject_answer V row c pattern ≡ Ok tt = cond-true (ltb c (count V row)) _ _ below ∙ cond-true (eqb (length pattern) (cell_bytes V)) _ _ (eq-eqb (length pattern) (cell_bytes V) (all ∙ here.long)) in
+    pub inject_done : (bytes after : List ℕ) → IsCell V c row bytes → length pattern ≡ cell_bytes V → after ≡ with_cell V c (xored bytes pattern) row → Does V row (inject c pattern) (struck (Ok tt)) after
+    inject_done bytes after here all is =
+        let told : inject_answer V row c pattern ≡ Ok tt = cond-true (ltb c (count V row)) _ _ below ∙ cond-true (eqb (length pattern) (cell_bytes V)) _ _ (eq-eqb (length pattern) (cell_bytes V) all) in
         (ap struck (sym told), is ∙ ap (λ xs. with_cell V c (xored xs pattern) row) here.is ∙ ap (injected V row c pattern) (sym told))

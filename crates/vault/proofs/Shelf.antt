@@ -1,10 +1,11 @@
 -- The cells that there are: they lie in the row, and their frames keep the limits.
 -- Assumes nothing.
-use Rattle.std.proofs.Common.{◌≡◌, ℕ, ◌+◌, ◌*◌, ◌<◌, ◌≤◌, Bool, true, false, cond, ◌&&◌, leb, List, length, take, drop, Some, None, refl, sym, ap, ◌∙◌, subst, mul-le-mul, arith}
+use Rattle.std.proofs.Common.{◌≡◌, ℕ, ◌+◌, ◌*◌, ◌<◌, ◌≤◌, Bool, true, false, cond, ◌&&◌, leb, List, length, take, drop, replicate, sym, ap, ◌∙◌, subst, mul-le-mul, arith, length-take-le}
+use lib.ListN.{length-replicate}
 use Rattle.std.proofs.lemmas.Bool.{and_parts, cond-true, leb-true}
 use Rattle.frame.specs.Code.{Code, fits, sized, frame_bytes}
 use Rattle.frame.proofs.Fits.{fit_parts, sized_parts}
-use Rattle.vault.specs.Cells.{Vault, cell_bytes, vault_fits, cell_length, count, cell, IsCell}
+use Rattle.vault.specs.Cells.{Vault, cell_bytes, vault_fits, count, cell, IsCell}
 use Rattle.vault.proofs.Rows.{count_fits, cell_long}
 
 -- a cell that was asked for is below the count where the parts fit
@@ -41,14 +42,12 @@ standing V row c inside =
       cells = leb-true V.cells 1024 upper.1;
     }
 
+-- the part of a room of n places that is lent
+pub lent : (n most : ℕ) → n ≤ most → length {A = ℕ} (take n (replicate most 0)) ≡ n
+lent n most few = length-take-le {A = ℕ} n (replicate most 0) (omega (arith, length-replicate {A = ℕ} most 0))
+
 -- the bytes at the place of a cell are the cell
-pub is_cell : (V : Vault) (row : List ℕ) (c len : ℕ) (bytes : List ℕ) → Some len ≡ cell_length V (length row) → c < V.cells → bytes ≡ take len (drop (c * len) row) → IsCell V c row bytes
-is_cell V row c len bytes told inside is =
-    let known = long (vault_fits V (length row)) (cell_bytes V) told in
-    let here : c < count V row = below V row c known.0 inside in
-    let the_cell : bytes ≡ cell V c row = is ∙ ap (λ n. take n (drop (c * n) row)) known.1 in
+pub is_cell : (V : Vault) (row : List ℕ) (c len : ℕ) (bytes : List ℕ) → c < count V row → len ≡ cell_bytes V → bytes ≡ take len (drop (c * len) row) → IsCell V c row bytes
+is_cell V row c len bytes here long is =
+    let the_cell : bytes ≡ cell V c row = is ∙ ap (λ n. take n (drop (c * n) row)) long in
     record { below = here; is = the_cell; long = ap length the_cell ∙ cell_long V row c here }
-  where
-    long : (fit : Bool) (n : ℕ) → Some len ≡ cond fit (Some n) None → (fit ≡ true) × (len ≡ n)
-    long true n e = (refl, cc)
-    long false n e = cc

@@ -1,14 +1,13 @@
 -- A vault that a program holds: what it means, and what a call does to it. F, C and B are the ghost members of its field, its column set and its bank.
 -- Assumes nothing.
-use Rattle.std.specs.Prelude.{◌≡◌, ℕ, ◌≤◌, List, Option, Result, MatchOption}
-use Rattle.arrayvec.specs.ArrayVec.{ArrayVec}
+use Rattle.std.specs.Prelude.{◌≡◌, ℕ, ◌<◌, ◌≤◌, List, Option, Result, MatchOption}
 use Rattle.field.specs.declared.Field.{Ghosts as FieldGhosts}
 use Rattle.columns.specs.declared.ColumnSet.{Ghosts as SetGhosts}
 use Rattle.bank.specs.declared.Bank.{Ghosts as BankGhosts}
 use Rattle.frame.specs.Code.{code_of}
 use Rattle.frame.specs.declared.verdict.OpenFault.{OpenFault}
 use Rattle.frame.specs.declared.verdict.Verdict.{Verdict}
-use Rattle.vault.specs.Cells.{Vault, vault, count, with_cell, IsCell}
+use Rattle.vault.specs.Cells.{Vault, vault, cell_bytes, count, with_cell}
 use Rattle.vault.specs.Calls.{Call, Answer, Does, cell_opening, swept_cell}
 use Rattle.vault.specs.Tally.{found_of}
 use Rattle.vault.specs.declared.parts.Vault.{Vault as Held}
@@ -21,9 +20,9 @@ vault_of F C held = vault (code_of F C held.set) held.blocks held.cells
 abbrev pub Performs : {T E S R : Type 0} → FieldGhosts T E → SetGhosts S → BankGhosts R → Held T S R E → Call → Answer → Held T S R E → Type 0
 Performs F C B before call answer after = Does (vault_of F C before) (B.row before.bank) call answer (B.row after.bank)
 
--- the bytes of cell c, if it is below the count
-abbrev pub Fetches : Vault → ℕ → List ℕ → Option (ArrayVec ℕ) → Type 0
-Fetches V c row fetched = MatchOption fetched (count V row ≤ c) (λ bytes. IsCell V c row bytes.items)
+-- the bytes of a cell, if c is below the count
+abbrev pub HasLength : Vault → ℕ → List ℕ → Option ℕ → Type 0
+HasLength V c row told = MatchOption told (count V row ≤ c) (λ len. (c < count V row) × (len ≡ cell_bytes V))
 
 -- `after` has these bytes in cell c, and else the row of `before`
 abbrev pub PutsCell : {T E S R : Type 0} → FieldGhosts T E → SetGhosts S → BankGhosts R → Held T S R E → ℕ → List ℕ → Held T S R E → Type 0

@@ -3,27 +3,20 @@ ghost use Rattle.std.specs.Prelude.{◌≡◌, ◌+◌, ◌≤◌, length, take,
 ghost use Rattle.std.proofs.Math.Seq.{paste};
 ghost use Rattle.bits.specs.Rows.{xored};
 
-use arrayvec::ArrayVec;
 use bank::Bank;
 
 // The bytes of the longest frame: 18 parts of 24 bits, a sum of 8 bits and the parity bit.
-const LONGEST: usize = 56;
+pub(crate) const LONGEST: usize = 56;
 
-// The bytes of one cell, in memory of a fixed size.
-pub(crate) type CellBytes = ArrayVec<u8, LONGEST>;
-
-// The bytes of the bank from `start` on, so many of them.
-pub(crate) fn fetch<B: Bank>(bank: &B, start: usize, len: usize) -> CellBytes
-    requires inside { start + len ≤ length (B.Bank.row bank.now) }
-    requires short { len ≤ LONGEST }
-    ensures { result.items ≡ take len (drop start (B.Bank.row bank.now)) }
+// The bytes of the bank from `start` on, as many as `bytes` has.
+pub(crate) fn fetch<B: Bank>(bank: &B, start: usize, bytes: &mut [u8])
+    requires { start + length bytes.old ≤ length (B.Bank.row bank.now) }
+    ensures { bytes.new ≡ take (length bytes.old) (drop start (B.Bank.row bank.now)) }
 {
-    let mut bytes = CellBytes::new();
     // a bank is no slice: its bytes are had one by one
-    for place in start..start + len {
-        bytes.push(bank.get(place).unwrap());
+    for (i, byte) in bytes.iter_mut().enumerate() {
+        *byte = bank.get(start + i).unwrap();
     }
-    bytes
 }
 
 // Puts `bytes` into the bank from `start` on.

@@ -1,11 +1,13 @@
 // The calls on one cell: write, read and inject. That a refusal changes nothing is a clause of each call that writes.
+// Each call has a room of its own for the bytes of its cell, and hands it to nobody: so a loop over them is one run of wide
+// loads and stores. As an `ArrayVec` that a fetch returns, an inject took thirty times as long.
 ghost use Rattle.std.specs.Prelude.{◌≡◌, OnErr};
 ghost use Rattle.salt.specs.Token.{salt_number};
 ghost use Rattle.vault.specs.Calls.{write as write_call, read as read_call, inject as inject_call, wrote, got, struck};
 ghost use Rattle.vault.specs.Held.{Performs, Keeps};
 
 use crate::answers::{InjectFault, ReadFault, WriteFault};
-use crate::bytes::xor_into;
+use crate::bytes::{LONGEST, xor_into};
 use crate::parts::Vault;
 use bank::Bank;
 use columns::ColumnSet;
@@ -21,7 +23,7 @@ impl<F: Field, C: ColumnSet, B: Bank> Vault<F, C, B> {
         ensures refused { OnErr result (self.new ≡ self.old) }
     {
         // by `let .. else`, with no `?`: the salt is a token, and each way out spends it or throws it away by name
-        let Some(mut frame) = self.fetch(cell) else {
+        let Some(len) = self.len_of(cell) else {
             salt.discard();
             return Err(WriteFault::Cell);
         };
@@ -29,9 +31,10 @@ impl<F: Field, C: ColumnSet, B: Bank> Vault<F, C, B> {
             salt.discard();
             return Err(WriteFault::Size);
         }
-        // the new frame takes the place of the one that lies there
-        seal::<F, C>(&self.set, word, salt, &mut frame)?;
-        self.store(cell, &frame);
+        let mut room = [0; LONGEST];
+        let frame = &mut room[..len];
+        seal::<F, C>(&self.set, word, salt, frame)?;
+        self.store(cell, frame);
         Ok(())
     }
 
@@ -39,11 +42,14 @@ impl<F: Field, C: ColumnSet, B: Bank> Vault<F, C, B> {
     pub fn read(&self, cell: usize, places: &mut [u32]) -> Result<Verdict, ReadFault>
         ensures does { Performs F.Field C.ColumnSet B.Bank self.now (read_call cell places.old) (got result places.new) self.now }
     {
-        let frame = self.fetch(cell).ok_or(ReadFault::Cell)?;
+        let len = self.len_of(cell).ok_or(ReadFault::Cell)?;
         if places.len() != self.blocks {
             return Err(ReadFault::Size);
         }
-        let (verdict, _) = open::<F, C>(&self.set, &frame, places).map_err(|fault| ReadFault::Frame(
+        let mut room = [0; LONGEST];
+        let frame = &mut room[..len];
+        self.fetch(cell, frame);
+        let (verdict, _) = open::<F, C>(&self.set, frame, places).map_err(|fault| ReadFault::Frame(
             cell, fault,
         ))?;
         Ok(verdict)
@@ -55,12 +61,15 @@ impl<F: Field, C: ColumnSet, B: Bank> Vault<F, C, B> {
         ensures kept { Keeps B.Bank self.old self.new }
         ensures refused { OnErr result (self.new ≡ self.old) }
     {
-        let mut bytes = self.fetch(cell).ok_or(InjectFault::Cell)?;
-        if pattern.len() != bytes.len() {
+        let len = self.len_of(cell).ok_or(InjectFault::Cell)?;
+        if pattern.len() != len {
             return Err(InjectFault::Size);
         }
-        xor_into(&mut bytes, pattern);
-        self.store(cell, &bytes);
+        let mut room = [0; LONGEST];
+        let bytes = &mut room[..len];
+        self.fetch(cell, bytes);
+        xor_into(bytes, pattern);
+        self.store(cell, bytes);
         Ok(())
     }
 }

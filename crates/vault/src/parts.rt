@@ -1,13 +1,13 @@
 // A vault and its parts: a field, a column set, a bank, the blocks of a word, and the cells that are asked for.
 // What each call leaves alone is one definition, `Keeps`, in place of four facts.
-ghost use Rattle.std.specs.Prelude.{◌≡◌, ◌<◌, length, if◌then◌else◌};
+ghost use Rattle.std.specs.Prelude.{◌≡◌, ◌<◌, ◌≤◌, length, IfSome, if◌then◌else◌};
 ghost use Rattle.frame.specs.Code.{code_of};
 ghost use Rattle.frame.specs.Faults.{fit_number};
-ghost use Rattle.vault.specs.Cells.{vault, vault_fits, cell_bytes, cell_length, count};
-ghost use Rattle.vault.specs.Held.{vault_of, Fetches, PutsCell, Keeps};
+ghost use Rattle.vault.specs.Cells.{vault, vault_fits, cell_bytes, cell_length, count, IsCell};
+ghost use Rattle.vault.specs.Held.{vault_of, HasLength, PutsCell, Keeps};
 ghost use Rattle.vault.specs.Law.{Law};
 
-use crate::bytes::{self, CellBytes};
+use crate::bytes::{self, LONGEST};
 use bank::Bank;
 use columns::ColumnSet;
 use field::Field;
@@ -79,15 +79,22 @@ impl<F: Field, C: ColumnSet, B: Bank> Vault<F, C, B> {
         self.cell_len().map_or(0, |_| self.cells)
     }
 
-    // The bytes of a cell, if it is below the count.
-    pub(crate) fn fetch(&self, cell: usize) -> Option<CellBytes>
-        ensures { Fetches (vault_of F.Field C.ColumnSet self.now) cell (B.Bank.row self.now.bank) result }
+    // How many bytes a cell has, if it is below the count; they go into a room for the longest frame.
+    pub(crate) fn len_of(&self, cell: usize) -> Option<usize>
+        ensures told { HasLength (vault_of F.Field C.ColumnSet self.now) cell (B.Bank.row self.now.bank) result }
+        ensures short { IfSome result (λ len. len ≤ LONGEST) }
     {
         let len = self.cell_len()?;
-        if cell >= self.cells {
-            return None;
-        }
-        Some(bytes::fetch(&self.bank, cell * len, len))
+        (cell < self.cells).then_some(len)
+    }
+
+    // The bytes of a cell below the count.
+    pub(crate) fn fetch(&self, cell: usize, bytes: &mut [u8])
+        requires below { cell < count (vault_of F.Field C.ColumnSet self.now) (B.Bank.row self.now.bank) }
+        requires long { length bytes.old ≡ cell_bytes (vault_of F.Field C.ColumnSet self.now) }
+        ensures { IsCell (vault_of F.Field C.ColumnSet self.now) cell (B.Bank.row self.now.bank) bytes.new }
+    {
+        bytes::fetch(&self.bank, cell * bytes.len(), bytes);
     }
 
     // Puts the bytes of a cell below the count.

@@ -6,6 +6,7 @@ ghost use Rattle.vault.specs.Held.{vault_of, Performs, SweepsCell, Keeps};
 ghost use Rattle.vault.specs.Tally.{mended_found};
 
 use crate::answers::Counts;
+use crate::bytes::LONGEST;
 use crate::parts::Vault;
 use bank::Bank;
 use columns::ColumnSet;
@@ -23,12 +24,15 @@ impl<F: Field, C: ColumnSet, B: Bank> Vault<F, C, B> {
         ensures kept { Keeps B.Bank self.old self.new }
         ensures still { mended_found result ≡ 0 → self.new ≡ self.old }
     {
-        let mut frame = self.fetch(cell).unwrap();
-        // memory of a fixed size for the most blocks
+        let len = self.len_of(cell).unwrap();
+        // memory of a fixed size for the longest frame and for the most blocks
+        let mut room = [0; LONGEST];
+        let frame = &mut room[..len];
+        self.fetch(cell, frame);
         let mut word = [0; MOST_BLOCKS];
-        let (verdict, _) = renew::<F, C>(&self.set, &mut frame, &mut word[..self.blocks])?;
+        let (verdict, _) = renew::<F, C>(&self.set, frame, &mut word[..self.blocks])?;
         if let Verdict::Mended(_) = verdict {
-            self.store(cell, &frame);
+            self.store(cell, frame);
         }
         Ok(verdict)
     }
