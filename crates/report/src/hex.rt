@@ -32,8 +32,9 @@ pub(crate) fn decode(heap: Global, line: &[u8]) -> Result<Option<Vec<u8>>, Alloc
     if !rest.is_empty() {
         return Ok(None);
     }
-    // not by `collect` into an `Option`: no proof learns when that is none
-    let mut bytes = Vec::with_capacity(heap, pairs.len())?;
+    // not by `collect` into an `Option`: no proof learns when that is none; with no capacity asked for, since a long line that is
+    // refused at its first pairs is to take no memory
+    let mut bytes = Vec::new(heap);
     for [high, low] in pairs {
         let Some(byte) = pair_value(*high, *low) else {
             return Ok(None);

@@ -7,7 +7,7 @@ returns-then-not-is_empty c = sym (none_odd c.args.line.now (omega (arith, c.as_
 
 pub loop-high-init : goal.loop-high-init
 loop-high-init c =
-    bytes_start c.args.line.now _ c.as_chunks.result.0.now c.in_ok-bytes.ensures.items c.as_chunks.ensures.front (omega (arith, c.as_chunks.ensures.back_len, true-eqb _ 0 c.if-not-is_empty.ensures))
+    bytes_start c.args.line.now _ c.as_chunks.result.0.now c.new-bytes.ensures.items c.as_chunks.ensures.front (omega (arith, c.as_chunks.ensures.back_len, true-eqb _ 0 c.if-not-is_empty.ensures))
 
 pub loop-high-preserved : goal.loop-high-preserved
 loop-high-preserved c =
