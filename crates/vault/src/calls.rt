@@ -1,5 +1,6 @@
 // The calls on one cell: write, read and inject. That a refusal changes nothing is a clause of each call that writes.
-// Each call has a room of its own for the bytes of its cell. A refusal comes before any byte of the bank is read, and a write reads none.
+// Each call has a room of its own for the bytes of its cell. A cell or a size is refused before any byte of the bank is read, and
+// a write reads none.
 ghost use Rattle.std.specs.Prelude.{◌≡◌, OnErr};
 ghost use Rattle.salt.specs.Token.{salt_number};
 ghost use Rattle.vault.specs.Calls.{write as write_call, read as read_call, inject as inject_call, wrote, got, struck};
